@@ -1,0 +1,13 @@
+pub mod Counting
+pub mod FixedNames
+pub mod ListPrinting
+pub mod Occurrences
+pub mod PrintingLemmas
+pub mod Sizes
+pub mod TermFolds
+pub mod TermLaws
+pub mod TextLemmas
+pub mod Solving
+pub mod Turns
+pub mod UnifyEnds
+pub mod VarLemmas

@@ -1,0 +1,16 @@
+//! Names, terms, their unification and their text.
+#![tactic(auto)]
+
+mod equations;
+mod memory;
+mod names;
+mod printing;
+mod terms;
+#[cfg(test)]
+mod tests;
+
+pub use equations::{Binding, Equation, Outcome, unification_law};
+pub use memory::NoMemory;
+pub use names::{Names, names_law};
+pub use printing::print_term;
+pub use terms::{Term, copy, depth, vars};
