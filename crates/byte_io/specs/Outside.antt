@@ -1,0 +1,24 @@
+-- What the outside holds and takes, and when it may refuse.
+use Rattle.std.specs.Prelude.{◌≡◌, ◌⊎◌, ℕ, ◌-◌, ◌^◌, ◌<◌, ◌≤◌, List, ◌++◌, take, Option, Some, None, Result, IsErrOf}
+
+-- files by name: the bytes of each that is there
+abbrev pub Held : Type 0
+Held = List ℕ → Option (List ℕ)
+
+-- a count of faults rose in a call, or stands at its last value at the call's end
+abbrev pub Rose : ℕ → ℕ → Type 0
+Rose before now = (before < now) ⊎ (now ≡ 2 ^ 64 - 1)
+
+-- The count did not fall, and this failure is told only where it rose.
+pub record HasCause {T E : Type 0} (failure : E) (before now : ℕ) (result : Result T E) : Type 0 where
+  pub later : before ≤ now
+  pub failed : IsErrOf result failure → Rose before now
+
+-- what was written and then a piece, where it is told
+abbrev pub grown : Option (List ℕ) → List ℕ → Option (List ℕ)
+grown None piece = None
+grown (Some text) piece = Some (text ++ piece)
+
+-- some prefix of the text was written and nothing else
+abbrev pub GrewByPrefix : Option (List ℕ) → Option (List ℕ) → List ℕ → Type 0
+GrewByPrefix old new text = (count : ℕ) × (new ≡ grown old (take count text))

@@ -1,0 +1,14 @@
+//! The outside as two traits, files and a sink, each with a count of its faults.
+#![tactic(auto)]
+
+mod files;
+mod host;
+mod memory;
+mod sink;
+#[cfg(test)]
+mod tests;
+
+pub use files::{Files, FilesFault};
+pub use host::{HostFiles, HostSink};
+pub use memory::{MemFiles, MemSink, NoMemory};
+pub use sink::{Sink, SinkFault, write_all};
