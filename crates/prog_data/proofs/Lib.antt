@@ -1,0 +1,4 @@
+pub mod GoalFolds
+pub mod Leaves
+pub mod MembershipLaws
+pub mod Persistence

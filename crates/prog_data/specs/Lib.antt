@@ -1,0 +1,7 @@
+pub mod Arithmetic
+pub mod Membership
+pub mod Conditions
+pub mod Goals
+pub mod BasicNames
+pub mod Values
+pub mod Laws

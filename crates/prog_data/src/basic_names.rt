@@ -1,0 +1,62 @@
+// The grammar names that every program has.
+ghost use Rattle.std.specs.Prelude.{◌≡◌, [], ◌∷◌, IfOk};
+ghost use Rattle.prog_data.specs.BasicNames.{basic_grammar};
+
+use crate::{Basic, Grammar, Rule};
+use sqlite_items::Items;
+use std::alloc::Global;
+use term_core::NoMemory;
+
+// A name with one rule.
+fn one_rule(alloc: Global, rule: Rule) -> Result<Items<Rule>, NoMemory>
+    ensures { IfOk result (λ rules. rules ≡ rule ∷ []) }
+{
+    let mut rules = Items::new(alloc);
+    rules.push(rule)?;
+    Ok(rules)
+}
+
+// A name with two rules.
+fn two_rules(alloc: Global, first: Rule, second: Rule) -> Result<Items<Rule>, NoMemory>
+    ensures { IfOk result (λ rules. rules ≡ first ∷ second ∷ []) }
+{
+    let mut rules = one_rule(alloc, first)?;
+    rules.push(second)?;
+    Ok(rules)
+}
+
+// The cells whose first argument is any term and whose second one belongs to the name 9, the lists.
+fn cell_rule(alloc: Global) -> Result<Rule, NoMemory>
+    ensures { IfOk result (λ rule. rule ≡ Rule.Node 1 (0 ∷ 9 ∷ [])) }
+{
+    let names = Items::from_slice(alloc, &[0, 9])?;
+    Ok(Rule::Node(1, names))
+}
+
+// The names 0 to 4: term, int, nnegint, num and atm.
+fn first_names(alloc: Global) -> Result<Items<Items<Rule>>, NoMemory>
+    ensures { IfOk result (λ rules. rules ≡ (Rule.Basic Basic.Term ∷ []) ∷ (Rule.Basic Basic.Int ∷ []) ∷ (Rule.Basic Basic.Nnegint ∷ []) ∷ (Rule.Unit 1 ∷ []) ∷ (Rule.Basic Basic.Atm ∷ []) ∷ []) }
+{
+    let mut rules = Items::new(alloc);
+    rules.push(one_rule(alloc, Rule::Basic(Basic::Term))?)?;
+    rules.push(one_rule(alloc, Rule::Basic(Basic::Int))?)?;
+    rules.push(one_rule(alloc, Rule::Basic(Basic::Nnegint))?)?;
+    rules.push(one_rule(alloc, Rule::Unit(1))?)?;
+    rules.push(one_rule(alloc, Rule::Basic(Basic::Atm))?)?;
+    Ok(rules)
+}
+
+/// The grammar of the basic names, which are term, int, nnegint, num, atm, gnd, constant, struct,
+/// callable and list, numbered from 0 (Ciao manual, "Basic data types and properties").
+pub fn basic_grammar(alloc: Global) -> Result<Grammar, NoMemory>
+    ensures { IfOk result (λ grammar. grammar ≡ basic_grammar) }
+{
+    let mut rules = first_names(alloc)?;
+    rules.push(one_rule(alloc, Rule::Basic(Basic::Gnd))?)?;
+    rules.push(two_rules(alloc, Rule::Basic(Basic::Int), Rule::Basic(Basic::Atm))?)?;
+    rules.push(one_rule(alloc, Rule::Basic(Basic::Struct))?)?;
+    rules.push(two_rules(alloc, Rule::Basic(Basic::Atm), Rule::Basic(Basic::Struct))?)?;
+    let list = two_rules(alloc, Rule::Atom(0), cell_rule(alloc)?)?;
+    rules.push(list)?;
+    Ok(Grammar { rules })
+}
