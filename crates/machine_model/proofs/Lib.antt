@@ -1,0 +1,16 @@
+pub mod Samples
+pub mod Rows
+pub mod OneRun
+pub mod Invariants
+pub mod Ends
+pub mod BothWays
+pub mod DropRelation
+pub mod DropSteps
+pub mod DropRuns
+pub mod ErasureRuns
+pub mod BrokenDue
+pub mod SoundRuns
+pub mod InstrumentedLooks
+pub mod ErasedInstrumented
+pub mod InstrumentedSteps
+pub mod InstrumentedRuns

@@ -1,0 +1,23 @@
+-- The program without its conditions.
+use Rattle.std.specs.Prelude.{◌≡◌, ℕ, false, [], map}
+use Rattle.std.specs.List.{AllByRecursion}
+use Rattle.prog_data.specs.declared.programs.Clause.{Clause}
+use Rattle.prog_data.specs.declared.programs.Pred.{Pred}
+use Rattle.prog_data.specs.declared.programs.Program.{Program}
+use Rattle.prog_data.specs.Goals.{without_exit, ends_in_exit, pred_of}
+
+-- its body loses the Exit that it is or ends in
+abbrev pub erase_clause : Clause → Clause
+erase_clause c = record c { body = without_exit c.body }
+
+-- a predicate without conditions and call checks
+abbrev pub erase_pred : Pred → Pred
+erase_pred p = record p { clauses = map erase_clause p.clauses; conds = []; call_checks = [] }
+
+-- a program without conditions, claims, call checks and Exit; its entries stay
+abbrev pub erase : Program → Program
+erase program = record program { preds = map erase_pred program.preds; conds = []; claims = [] }
+
+-- no body is Exit or ends in it, as in a linked program
+abbrev pub HasNoExit : Program → Type 0
+HasNoExit program = (p : ℕ) → AllByRecursion (λ c. ends_in_exit c.body ≡ false) (pred_of program p).clauses

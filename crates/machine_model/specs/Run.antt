@@ -1,0 +1,65 @@
+-- Whole runs.
+use Rattle.std.specs.Prelude.{◌≡◌, ℕ, zero, suc, ◌+◌, Bool, List, [], ◌∷◌, ◌++◌, Some}
+use Rattle.term_core.specs.declared.terms.Term.{Term, out-Term}
+use Rattle.term_core.specs.Terms.{above}
+use Rattle.prog_data.specs.declared.goals.Goal as goal
+use Rattle.prog_data.specs.declared.programs.Place.{Place}
+use Rattle.prog_data.specs.declared.programs.Program.{Program}
+use Rattle.prog_data.specs.declared.events.Event.{Event}
+use Rattle.prog_data.specs.declared.events.Ending.{Ending}
+use Rattle.prog_data.specs.Goals.{called_by, parts_of}
+use Rattle.machine_model.specs.State.{Does, Doing, State, Phase, Going, Over, Trace}
+use Rattle.machine_model.specs.Reading.{Reading, every_condition, only_kept, kept_checks}
+use Rattle.machine_model.specs.Step.{step, quietly}
+
+-- no clause's place
+abbrev pub nowhere : Place
+nowhere = record { file = 0; line = 0 }
+
+-- the query's call alone, with no choice and no call made
+abbrev pub start_of : ℕ → Term → State
+start_of p query = record {
+  calls = 0;
+  fresh = above query;
+  choices = [];
+  current = Doing (record { items = Does (goal.Call p (parts_of (out-Term query))) 0 nowhere ∷ []; query = query });
+}
+
+-- two traces, one after the other
+abbrev pub then_trace : Trace → Trace → Trace
+then_trace a b = record { events = a.events ++ b.events; tests = a.tests + b.tests; phase = b.phase }
+
+module _ (text : Bool → Term → List ℕ) (r : Reading) (program : Program) (bound : ℕ) where
+  -- the trace of k steps, or of fewer where the run is over
+  abbrev pub steps : ℕ → Phase → Trace
+  steps zero p = quietly p
+  steps (suc k) (Over e) = quietly (Over e)
+  steps (suc k) (Going s) = let t = step text r program bound s in then_trace t (steps k t.phase)
+
+  -- after some number of steps the run from a state is over, with these events, number of tests and ending
+  pub record RunsFrom (s : State) (events : List Event) (tests : ℕ) (e : Ending) : Type 0 where
+    pub count : ℕ
+    pub trace : steps count (Going s) ≡ record { events = events; tests = tests; phase = Over e }
+
+  -- some number of steps leads from one state to another
+  pub record Reaches (s s' : State) : Type 0 where
+    pub count : ℕ
+    pub phase : (steps count (Going s)).phase ≡ Going s'
+
+-- the run of a query with this reading
+pub record RunsBy (text : Bool → Term → List ℕ) (r : Reading) (program : Program) (query : Term) (bound : ℕ) (events : List Event) (tests : ℕ) (e : Ending) : Type 0 where
+  pub pred : ℕ
+  pub calls : called_by program query ≡ Some pred
+  pub runs : RunsFrom text r program bound (start_of pred query) events tests e
+
+-- the run of a query that tests every condition; the number of tests is left open
+abbrev pub Run : (Bool → Term → List ℕ) → Program → Term → ℕ → List Event → Ending → Type 0
+Run text program query bound events e = (tests : ℕ) × RunsBy text (every_condition program) program query bound events tests e
+
+-- the run of a query that tests only some of the conditions; the number of tests is left open
+abbrev pub KeptRun : (Bool → Term → List ℕ) → (ℕ → Bool) → Program → Term → ℕ → List Event → Ending → Type 0
+KeptRun text keeps program query bound events e = (tests : ℕ) × RunsBy text (only_kept keeps (every_condition program)) program query bound events tests e
+
+-- the run of a query that tests the kept checks
+abbrev pub CheckRun : (Bool → Term → List ℕ) → Program → Term → ℕ → List Event → ℕ → Ending → Type 0
+CheckRun text program query bound events tests e = RunsBy text (kept_checks program) program query bound events tests e

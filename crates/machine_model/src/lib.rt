@@ -1,0 +1,49 @@
+//! The checking semantics and its laws.
+#![tactic(auto)]
+
+ghost use Rattle.std.specs.Prelude.{ℕ, ◌≤◌, List};
+ghost use Rattle.prog_data.specs.declared.tables.Status.{Status};
+ghost use Rattle.prog_data.specs.declared.programs.Program.{Program};
+ghost use Rattle.machine_model.specs.State.{State};
+ghost use Rattle.machine_model.specs.Reading.{Reading};
+ghost use Rattle.machine_model.specs.Laws.{Text, OneRun, Ends, Erases, ErasesInstrumented, Drops, Suffices, Simulates, CallsBounded};
+
+/// A run has one list of events, one number of tests and one ending.
+pub fn one_run_law()
+    ensures { (text : Text) (r : Reading) (program : Program) (bound : ℕ) → OneRun text r program bound }
+{}
+
+/// For each bound a run ends.
+pub fn ends_law()
+    ensures { (text : Text) (r : Reading) (program : Program) → Ends text r program }
+{}
+
+/// The calls made never pass the bound.
+pub fn calls_bounded_law()
+    ensures { (text : Text) (r : Reading) (program : Program) (bound : ℕ) → CallsBounded text r program bound }
+{}
+
+/// Until a condition is broken, the run is the one of the program without conditions.
+pub fn erasure_law()
+    ensures { (text : Text) (program : Program) → Erases text program }
+{}
+
+/// An instrumented program and the program are the same without their conditions.
+pub fn instrumented_erasure_law()
+    ensures { (program : Program) (statuses : List Status) → ErasesInstrumented program statuses }
+{}
+
+/// Until a condition that is not tested is broken, the run that tests only some conditions is the one that tests all.
+pub fn dropping_law()
+    ensures { (text : Text) (program : Program) → Drops text program }
+{}
+
+/// Where the statuses are sound, the tests of the conditions that are not checked suffice.
+pub fn kept_tests_law()
+    ensures { (text : Text) (program : Program) (statuses : List Status) → Suffices text program statuses }
+{}
+
+/// Where the statuses are sound, the instrumented program's run by its checks is the program's run.
+pub fn simulation_law()
+    ensures { (text : Text) (program : Program) (statuses : List Status) → Simulates text program statuses }
+{}
