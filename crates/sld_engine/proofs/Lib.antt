@@ -1,0 +1,14 @@
+pub mod Alikes
+pub mod Belonging
+pub mod Bindings
+pub mod Builts
+pub mod Calling
+pub mod BindingLoops
+pub mod Filters
+pub mod Lists
+pub mod PairLemmas
+pub mod Reducing
+pub mod Simplifying
+pub mod Steps
+pub mod Telling
+pub mod Trying

@@ -1,0 +1,9 @@
+pub mod Belonging
+pub mod Built
+pub mod Continues
+pub mod Moves
+pub mod Parts
+pub mod Runs
+pub mod Substitutions
+pub mod Testing
+pub mod Views
