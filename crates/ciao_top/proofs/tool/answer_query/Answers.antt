@@ -1,0 +1,15 @@
+use Rattle.std.proofs.Common.{rules, ◌≡◌, codes}
+use Rattle.ciao_top.specs.Lines.{fault_line}
+use Rattle.ciao_top.specs.InnerAnswers.{run_words}
+use Rattle.ciao_top.proofs.Files.{unread, query_answers}
+use Rattle.ciao_top.proofs.tool.answer_query.Goals as goal
+
+pub returns-in-Ok-None : goal.returns-in-Ok-None
+returns-in-Ok-None g c =
+    let line : c.as_bytes.result.now ≡ fault_line (codes "query unread") = search rules in
+    unread _ _ _ _ _ _ _ (rw c.in-Ok-None.field-0-is at c.in-Ok-None.ensures.none) line c.say.ensures
+
+pub returns-in-Ok-Some : goal.returns-in-Ok-Some
+returns-in-Ok-Some g c =
+    query_answers c.args.program.now (run_words c.args.command.now) c.plain_query.new.names c.in-Ok-Some.query
+    (rw c.in-Ok-Some.field-0-is at c.in-Ok-Some.ensures.some) _ _ _ _ c.answer_call.ensures

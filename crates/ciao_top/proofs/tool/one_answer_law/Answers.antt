@@ -1,0 +1,5 @@
+use Rattle.ciao_top.proofs.Contracts.{one_answer}
+use Rattle.ciao_top.proofs.tool.one_answer_law.Goals as goal
+
+pub returns : goal.returns
+returns c = one_answer c.one_run_law.ensures

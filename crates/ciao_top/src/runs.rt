@@ -1,0 +1,119 @@
+// The writing of a run.
+ghost use Rattle.std.specs.Prelude.{◌≡◌, ◌⊎◌, ◌≤◌, ◌^◌, true, Some, IfErr, IfNone, OnOk, OnErr, MatchOption};
+ghost use Rattle.byte_io.specs.Outside.{Rose, grown, GrewByPrefix};
+ghost use Rattle.prog_data.specs.Goals.{called_by};
+ghost use Rattle.sld_engine.specs.Built.{is_built};
+ghost use Rattle.sld_engine.specs.Runs.{phase_of, program_of, bound_of};
+ghost use Rattle.ciao_top.specs.RunText.{event_text, ending_status};
+ghost use Rattle.ciao_top.specs.InnerAnswers.{Comes, HasWritten, event_status, RunTells, GoesOn, CallAnswers};
+
+use crate::texts::event_text;
+use byte_io::{Sink, SinkFault, write_all};
+use prog_data::{Ending, Event, Program};
+use sld_engine::Run;
+use std::alloc::Global;
+use term_core::Term;
+
+// The status of an ending.
+fn ending_status(ending: &Ending) -> u8
+    ensures { result ≡ ending_status ending.now }
+{
+    match ending {
+        Ending::NoMore => 0,
+        Ending::Violated(_) => 1,
+        Ending::Bound => 5,
+        Ending::Cyclic(_) | Ending::Arithmetic(_, _) => 6,
+    }
+}
+
+// The status with which an event ends a run.
+fn event_status(event: &Event) -> Option<u8>
+    ensures { result ≡ event_status event.now }
+{
+    match event {
+        Event::Out(_) | Event::Answer(_) => None,
+        Event::End(ending) => Some(ending_status(ending)),
+    }
+}
+
+// Writes an event, or gives the status of a sink that refused or of want of memory.
+fn write_event<S: Sink>(
+    alloc: Global,
+    program: &Program,
+    event: &Event,
+    out: &mut S,
+) -> Result<(), u8>
+    ensures ok { OnOk result (S.written out.new ≡ grown (S.written out.old) (event_text program.now event.now)) }
+    ensures err { OnErr result (GrewByPrefix (S.written out.old) (S.written out.new) (event_text program.now event.now)) }
+    ensures status { IfErr result (λ status. ((status ≡ 8) × Rose (S.faults out.old) (S.faults out.new)) ⊎ (status ≡ 9)) }
+    ensures later { S.faults out.old ≤ S.faults out.new }
+{
+    match event_text(alloc, program, event) {
+        Err(_) => Err(9),
+        Ok(text) => match write_all(out, text.as_bytes()) {
+            Ok(()) => Ok(()),
+            Err(SinkFault::Failed) => Err(8),
+            Err(SinkFault::NoMemory) => Err(9),
+        },
+    }
+}
+
+// Writes the next event. None: the run goes on; else the status with which the answer ends.
+fn write_next<S: Sink>(
+    alloc: Global,
+    program: &Program,
+    run: &mut Run<'_>,
+    out: &mut S,
+) -> Option<u8>
+    requires { program_of run.old ≡ program.now }
+    ensures told { MatchOption result
+        (HasWritten (RunTells program.now (bound_of run.old) (phase_of run.old)) (RunTells program.now (bound_of run.old) (phase_of run.new)) (S.written out.old) (S.written out.new))
+        (λ status. Comes (RunTells program.now (bound_of run.old) (phase_of run.old)) (Rose (S.faults out.old) (S.faults out.new)) (S.written out.old) (S.written out.new) status) }
+    ensures goes { IfNone result (GoesOn program.now (bound_of run.old) (phase_of run.old) (phase_of run.new)) }
+    ensures later { S.faults out.old ≤ S.faults out.new }
+    ensures program { program_of run.new ≡ program.now }
+    ensures bound { bound_of run.new ≡ bound_of run.old }
+{
+    match run.next() {
+        Err(_) => Some(9),
+        Ok(event) => match write_event(alloc, program, &event, out) {
+            Err(status) => Some(status),
+            Ok(()) => event_status(&event),
+        },
+    }
+}
+
+// Writes a run to its end.
+fn write_run<S: Sink>(alloc: Global, program: &Program, run: &mut Run<'_>, out: &mut S) -> u8
+    requires { program_of run.old ≡ program.now }
+    ensures { Comes (RunTells program.now (bound_of run.old) (phase_of run.old)) (Rose (S.faults out.old) (S.faults out.new)) (S.written out.old) (S.written out.new) result }
+{
+    'events: loop {
+        match write_next(alloc, program, run, out) {
+            None => {}
+            Some(status) => return status,
+        }
+    }
+}
+
+/// Writes the run of a query, which calls the predicate with this number, and gives its status.
+pub(crate) fn answer_run<S: Sink>(
+    alloc: Global,
+    program: &Program,
+    predicate: u64,
+    query: &Term,
+    bound: u64,
+    out: &mut S,
+) -> u8
+    requires built { is_built program.now ≡ true }
+    requires calls { called_by program.now query.now ≡ Some predicate }
+    ensures { Comes (CallAnswers program.now query.now bound) (Rose (S.faults out.old) (S.faults out.new)) (S.written out.old) (S.written out.new) result }
+{
+    match Run::new(alloc, program, predicate, query, bound) {
+        Err(_) => 9,
+        Ok(run) => {
+            let mut run = run;
+            write_run(alloc, program, &mut run, out)
+        }
+    }
+}

@@ -1,0 +1,164 @@
+// The top call.
+ghost use Rattle.std.specs.Prelude.{◌≡◌, ℕ, ◌<◌, ◌≤◌, ◌++◌, [], true, map, take, length, IfOk, codes, string_bytes};
+ghost use Rattle.byte_io.specs.Outside.{Rose, grown};
+ghost use Rattle.sld_engine.specs.Built.{is_built};
+ghost use Rattle.ciao_top.specs.Words.{AcceptedWords, is_main_file};
+ghost use Rattle.ciao_top.specs.Lines.{fault_line, file_fault, read_fault};
+ghost use Rattle.ciao_top.specs.Answers.{Answered, FileAnswers, QueryAnswers, OneAnswer, SomeAnswer, Completeness};
+ghost use Rattle.ciao_top.specs.PlainNames.{PlainNamesArePlaces};
+ghost use Rattle.ciao_top.specs.InnerAnswers.{run_words, Comes, Only, RunAnswered, CallAnswers};
+
+use crate::plain::{plain_query, read_file};
+use crate::runs::answer_run;
+use crate::texts::{file_fault_text, read_fault_text};
+use crate::words::{RunCommand, base_of, read_words};
+use byte_io::{Files, FilesFault, Sink, SinkFault, write_all};
+use machine_model::{ends_law, one_run_law};
+use prog_data::{Program, called_by};
+use std::alloc::Global;
+use std::thread::Threads;
+use term_core::Term;
+
+/// One byte more than a file may have.
+const MOST_READ: u64 = 1_048_577;
+
+// Writes a text, and gives the status that goes with it, or that of a sink that refused.
+fn say<S: Sink>(out: &mut S, text: &[u8], status: u8) -> u8
+    ensures { Comes (Only text.now status) (Rose (S.faults out.old) (S.faults out.new)) (S.written out.old) (S.written out.new) result }
+{
+    match write_all(out, text) {
+        Ok(()) => status,
+        Err(SinkFault::Failed) => 8,
+        Err(SinkFault::NoMemory) => 9,
+    }
+}
+
+// Tells a fault of a whole file.
+fn say_file_fault<S: Sink>(alloc: Global, file: &str, kind: &str, out: &mut S) -> u8
+    ensures { Comes (Only (file_fault file.now kind.now) 3) (Rose (S.faults out.old) (S.faults out.new)) (S.written out.old) (S.written out.new) result }
+{
+    match file_fault_text(alloc, file, kind) {
+        Ok(text) => say(out, &text, 3),
+        Err(_) => 9,
+    }
+}
+
+// Tells that a file could not be read.
+fn say_read_fault<S: Sink>(alloc: Global, file: &str, out: &mut S) -> u8
+    ensures { Comes (Only (read_fault file.now) 7) (Rose (S.faults out.old) (S.faults out.new)) (S.written out.old) (S.written out.new) result }
+{
+    match read_fault_text(alloc, file) {
+        Ok(text) => say(out, &text, 7),
+        Err(_) => 9,
+    }
+}
+
+// Answers a query that was read.
+fn answer_call<S: Sink>(
+    alloc: Global,
+    program: &Program,
+    query: &Term,
+    bound: u64,
+    out: &mut S,
+) -> u8
+    requires { is_built program.now ≡ true }
+    ensures { Comes (CallAnswers program.now query.now bound) (Rose (S.faults out.old) (S.faults out.new)) (S.written out.old) (S.written out.new) result }
+{
+    match called_by(program, query) {
+        None => say(out, "fault: query not exported\n".as_bytes(), 4),
+        Some(predicate) => answer_run(alloc, program, predicate, query, bound, out),
+    }
+}
+
+// Answers the query of a program, to whose names those of the query are added.
+fn answer_query<S: Sink>(
+    alloc: Global,
+    program: &mut Program,
+    command: &RunCommand<'_>,
+    out: &mut S,
+) -> u8
+    requires { is_built program.old ≡ true }
+    ensures { Comes (QueryAnswers program.old (run_words command.now)) (Rose (S.faults out.old) (S.faults out.new)) (S.written out.old) (S.written out.new) result }
+{
+    match plain_query(alloc, &mut program.names, command.query) {
+        Err(_) => 9,
+        Ok(None) => say(out, "fault: query unread\n".as_bytes(), 4),
+        Ok(Some(query)) => answer_call(alloc, program, &query, command.steps, out),
+    }
+}
+
+// Answers the query of a file that is there.
+fn answer_file<S: Sink>(alloc: Global, command: &RunCommand<'_>, bytes: &[u8], out: &mut S) -> u8
+    requires { is_main_file command.now.file.now ≡ true }
+    ensures { Comes (FileAnswers bytes.now (run_words command.now)) (Rose (S.faults out.old) (S.faults out.new)) (S.written out.old) (S.written out.new) result }
+{
+    match read_file(alloc, base_of(command.file), bytes) {
+        Err(_) => 9,
+        Ok(None) => say_file_fault(alloc, command.file, "NotBuilt", out),
+        Ok(Some(program)) => {
+            let mut program = program;
+            answer_query(alloc, &mut program, command, out)
+        }
+    }
+}
+
+// Runs a query of a file.
+fn run<F: Files, S: Sink>(alloc: Global, command: &RunCommand<'_>, files: &mut F, out: &mut S) -> u8
+    requires { is_main_file command.now.file.now ≡ true }
+    ensures { RunAnswered (F.held files.old) (run_words command.now)
+        (Rose (F.faults files.old) (F.faults files.new)) (Rose (S.faults out.old) (S.faults out.new))
+        (S.written out.old) (S.written out.new) result }
+{
+    match files.read(command.file, MOST_READ) {
+        Ok(None) => say_file_fault(alloc, command.file, "NoFile", out),
+        Ok(Some(bytes)) => answer_file(alloc, command, &bytes, out),
+        Err(FilesFault::Failed) => say_read_fault(alloc, command.file, out),
+        Err(FilesFault::NoMemory) => 9,
+    }
+}
+
+/// Runs the command that the words are, and gives the status.
+///
+/// The words are `run FILE QUERY --steps N`. Each event of the run is written as one piece, and then its ending.
+/// The status is 0 to 6 by the ending or the fault that is told, 7 where a file could not be read, 8 where the
+/// sink refused, and 9 for want of memory.
+pub fn run_tool<R: Threads + Sync, F: Files, S: Sink>(
+    _rt: &R,
+    alloc: Global,
+    words: &[String],
+    files: &mut F,
+    out: &mut S,
+) -> u8
+    ensures answered { Answered (F.held files.old) (map string_bytes words.now)
+        (Rose (F.faults files.old) (F.faults files.new)) (Rose (S.faults out.old) (S.faults out.new))
+        (S.written out.old) (S.written out.new) result }
+{
+    match read_words(words) {
+        None => say(out, "fault: words\n".as_bytes(), 2),
+        Some(command) => run(alloc, &command, files, out),
+    }
+}
+
+/// For files and words there is one text and one status.
+pub fn one_answer_law()
+    ensures { OneAnswer }
+{
+    one_run_law();
+}
+
+/// For files and words it cannot be that there is no text and no status.
+pub fn some_answer_law()
+    ensures { SomeAnswer }
+{
+    ends_law();
+}
+
+/// Without a rise of a count the text and the status are the defined ones, or memory was wanted.
+pub fn completeness_law()
+    ensures { Completeness }
+{}
+
+/// The numbers by which plain files tell operators and built-ins are those of their texts.
+pub fn plain_names_law()
+    ensures { PlainNamesArePlaces }
+{}
