@@ -1,0 +1,2 @@
+:- module(nested,[p/1]).
+p(a).

@@ -1,0 +1,2 @@
+:- module(wrong,[p/1]).
+p(X) :- X = 1.
