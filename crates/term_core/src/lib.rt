@@ -11,6 +11,6 @@ mod tests;
 
 pub use equations::{Binding, Equation, Outcome, unification_law};
 pub use memory::NoMemory;
-pub use names::{Names, names_law};
+pub use names::{Names, names_law, names_threads_law};
 pub use printing::print_term;
 pub use terms::{Term, copy, depth, vars};

@@ -2,6 +2,8 @@
 ghost use Rattle.std.specs.Prelude.{◌≡◌, ◌<◌, ◌+◌, ◌^◌, List, ℕ, [], ◌∷◌, ◌++◌, map, length, slice_get, IfOk, OnOk, OnErr, option_map, Some, bytes_eq};
 ghost use Rattle.std.specs.List.{IsDistinct};
 ghost use Rattle.term_core.specs.Names.{fixed_names, place_of, with_text, with_texts, find_text, IsPrefix, NamesArePlaces};
+ghost use Rattle.std.specs.Thread.{IsSend, IsSync};
+ghost use Rattle.term_core.specs.contracts.names.Names.{the_row as names_row};
 
 use crate::NoMemory;
 use indexmap::IndexSet;
@@ -109,3 +111,17 @@ impl Names {
 pub fn names_law()
     ensures { NamesArePlaces }
 {}
+
+// What is true of every type that may go to another thread and be shared.
+fn crosses<T: Send + Sync>()
+    ensures send { IsSend T.row }
+    ensures sync { IsSync T.row }
+{}
+
+/// Names may go to another thread, and several threads may share them.
+pub fn names_threads_law()
+    ensures send { IsSend names_row }
+    ensures sync { IsSync names_row }
+{
+    crosses::<Names>();
+}
