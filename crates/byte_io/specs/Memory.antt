@@ -1,5 +1,5 @@
 -- What files and a sink in memory hold.
-use Rattle.std.specs.Prelude.{ℕ, Bool, nat_eq, List, [], ◌∷◌, Option, Some, None, if◌then◌else◌, bytes_eq}
+use Rattle.std.specs.Prelude.{ℕ, Bool, true, false, nat_eq, List, [], ◌∷◌, Option, Some, None, if◌then◌else◌, bytes_eq}
 use Rattle.std.specs.List.{list_any}
 use Rattle.byte_io.specs.Outside.{Held}
 use Rattle.byte_io.specs.declared.memory.Stored.{Stored}
@@ -59,3 +59,8 @@ sink_calls m = m.calls
 -- whether a call's number is among those that fail
 abbrev pub is_listed : List ℕ → ℕ → Bool
 is_listed calls call = list_any (λ listed. nat_eq listed call) calls
+
+-- whether no call is listed as one that fails
+abbrev pub none_fails : List ℕ → Bool
+none_fails [] = true
+none_fails (call ∷ calls) = false

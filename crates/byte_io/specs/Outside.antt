@@ -1,5 +1,5 @@
 -- What the outside holds and takes, and when it may refuse.
-use Rattle.std.specs.Prelude.{◌≡◌, ◌⊎◌, ℕ, ◌-◌, ◌^◌, ◌<◌, ◌≤◌, List, ◌++◌, take, Option, Some, None, Result, IsErrOf}
+use Rattle.std.specs.Prelude.{◌≡◌, ◌⊎◌, ℕ, Bool, true, ◌-◌, ◌^◌, ◌<◌, ◌≤◌, List, ◌++◌, take, Option, Some, None, Result, IsErrOf}
 
 -- files by name: the bytes of each that is there
 abbrev pub Held : Type 0
@@ -13,6 +13,10 @@ Rose before now = (before < now) ⊎ (now ≡ 2 ^ 64 - 1)
 pub record HasCause {T E : Type 0} (failure : E) (before now : ℕ) (result : Result T E) : Type 0 where
   pub later : before ≤ now
   pub failed : IsErrOf result failure → Rose before now
+
+-- where no call failed but for want of memory, the count of faults is as before, and still none will
+abbrev pub StaysSteady : Bool → Bool → ℕ → ℕ → Type 0
+StaysSteady was is before now = was ≡ true → (now ≡ before) × (is ≡ true)
 
 -- what was written and then a piece, where it is told
 abbrev pub grown : Option (List ℕ) → List ℕ → Option (List ℕ)

@@ -1,6 +1,6 @@
 // Files as a program sees them: names with bytes.
-ghost use Rattle.std.specs.Prelude.{◌≡◌, ◌≤◌, ℕ, List, length, take, Option, option_map, IfOk, IfSome};
-ghost use Rattle.byte_io.specs.Outside.{HasCause, Held};
+ghost use Rattle.std.specs.Prelude.{◌≡◌, ◌≤◌, ℕ, Bool, List, length, take, Option, option_map, IfOk, IfSome};
+ghost use Rattle.byte_io.specs.Outside.{HasCause, Held, StaysSteady};
 
 /// Why a file was not read.
 #[derive(Clone, Copy, Drop, Debug, PartialEq, Eq)]
@@ -19,6 +19,9 @@ pub trait Files {
     /// How often a read has failed. It stays at 2^64 - 1.
     ghost faults: { Self → ℕ };
 
+    /// Whether no read fails but for want of memory.
+    ghost steady: { Self → Bool };
+
     /// The bytes of a file, or the first `most` of them where they are more. None: there is no such file.
     /// Failed comes only where the count of faults rose or stands at its last value. The files stay the same.
     fn read(&mut self, name: &str, most: u64) -> Result<Option<Vec<u8>>, FilesFault>
@@ -26,5 +29,6 @@ pub trait Files {
             option_map (λ bytes. bytes.items) answer ≡ option_map (take most) (files name.now))) }
         ensures most { IfOk result (λ answer. IfSome answer (λ bytes. length bytes.items ≤ most)) }
         ensures same { held self.new ≡ held self.old }
-        ensures cause { HasCause FilesFault.Failed (faults self.old) (faults self.new) result };
+        ensures cause { HasCause FilesFault.Failed (faults self.old) (faults self.new) result }
+        ensures steady { StaysSteady (steady self.old) (steady self.new) (faults self.old) (faults self.new) };
 }

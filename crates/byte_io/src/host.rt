@@ -1,5 +1,5 @@
 // The real files and the standard output.
-ghost use Rattle.std.specs.Prelude.{◌≡◌, ℕ, ◌<◌, ◌≤◌, ◌-◌, length, Option, Some, None, IfOk, IfSome};
+ghost use Rattle.std.specs.Prelude.{◌≡◌, ℕ, Bool, false, ◌<◌, ◌≤◌, ◌-◌, length, Option, Some, None, IfOk, IfSome};
 
 use crate::memory::raised;
 use crate::{Files, FilesFault, Sink, SinkFault};
@@ -96,6 +96,8 @@ impl<'a, R: rt::Files + AllocGlobal> Files for HostFiles<'a, R> {
 
     ghost faults = { λ f. f.faults };
 
+    ghost steady = { λ _. false };
+
     fn read(&mut self, name: &str, most: u64) -> Result<Option<Vec<u8>>, FilesFault> {
         match read_file(self.rt, name, most) {
             Ok(answer) => Ok(answer),
@@ -147,6 +149,8 @@ impl<'a, R: Print> Sink for HostSink<'a, R> {
     ghost written = { λ _. None };
 
     ghost faults = { λ s. s.faults };
+
+    ghost steady = { λ _. false };
 
     fn write(&mut self, piece: &[u8]) -> Result<usize, SinkFault> {
         match write_some(self.rt, piece) {

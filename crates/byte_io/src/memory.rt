@@ -1,6 +1,6 @@
 // Files and a sink in memory, which fail at the calls that they are told.
 ghost use Rattle.std.specs.Prelude.{◌≡◌, ℕ, ◌<◌, ◌≤◌, ◌+◌, List, [], ◌∷◌, ◌++◌, take, Option, Some, None, option_map, OnOk, OnErr, IfOk, IfSome, IfNone, IsErrOf, min, max, true, false, length, ◌^◌, ◌-◌};
-ghost use Rattle.byte_io.specs.Outside.{Rose, HasCause, grown};
+ghost use Rattle.byte_io.specs.Outside.{Rose, HasCause, grown, StaysSteady};
 ghost use Rattle.byte_io.specs.Memory.{content_in};
 
 use crate::{Files, FilesFault, Sink, SinkFault};
@@ -105,11 +105,13 @@ impl MemFiles {
 }
 
 impl Files for MemFiles {
-    ghost use Rattle.byte_io.specs.Memory.{files_held, files_faults, files_failing, files_calls, is_listed};
+    ghost use Rattle.byte_io.specs.Memory.{files_held, files_faults, files_failing, files_calls, is_listed, none_fails};
 
     ghost held = { λ m. Some (files_held m) };
 
     ghost faults = { λ m. m.faults };
+
+    ghost steady = { λ m. none_fails m.failing.items };
 
     // The trait's clauses, and: the reads that fail are those that were listed.
     fn read(&mut self, name: &str, most: u64) -> Result<Option<Vec<u8>>, FilesFault>
@@ -117,6 +119,7 @@ impl Files for MemFiles {
         ensures most { IfOk result (λ answer. IfSome answer (λ bytes. length bytes.items ≤ most)) }
         ensures same { files_held self.new ≡ files_held self.old }
         ensures cause { HasCause FilesFault.Failed (files_faults self.old) (files_faults self.new) result }
+        ensures steady { StaysSteady (none_fails (files_failing self.old)) (none_fails (files_failing self.new)) (files_faults self.old) (files_faults self.new) }
         ensures listed { is_listed (files_failing self.old) (files_calls self.old) ≡ true → IsErrOf result FilesFault.Failed }
         ensures counted { is_listed (files_failing self.old) (files_calls self.old) ≡ true → files_faults self.new ≡ min (files_faults self.old + 1) (2 ^ 64 - 1) }
         ensures quiet { is_listed (files_failing self.old) (files_calls self.old) ≡ false → files_faults self.new ≡ files_faults self.old }
@@ -206,11 +209,13 @@ impl MemSink {
 }
 
 impl Sink for MemSink {
-    ghost use Rattle.byte_io.specs.Memory.{sink_taken, sink_limit, sink_faults, sink_failing, sink_calls, is_listed};
+    ghost use Rattle.byte_io.specs.Memory.{sink_taken, sink_limit, sink_faults, sink_failing, sink_calls, is_listed, none_fails};
 
     ghost written = { λ m. Some m.taken.items };
 
     ghost faults = { λ m. m.faults };
+
+    ghost steady = { λ m. none_fails m.failing.items };
 
     // The trait's clauses, and: the writes that fail are those that were listed.
     fn write(&mut self, piece: &[u8]) -> Result<usize, SinkFault>
@@ -221,6 +226,7 @@ impl Sink for MemSink {
         ensures count { IfOk result (λ count. count ≡ min (max (sink_limit self.old) 1) (length piece.now)) }
         ensures refused { OnErr result (Some (sink_taken self.new) ≡ Some (sink_taken self.old)) }
         ensures cause { HasCause SinkFault.Failed (sink_faults self.old) (sink_faults self.new) result }
+        ensures steady { StaysSteady (none_fails (sink_failing self.old)) (none_fails (sink_failing self.new)) (sink_faults self.old) (sink_faults self.new) }
         ensures listed { is_listed (sink_failing self.old) (sink_calls self.old) ≡ true → IsErrOf result SinkFault.Failed }
         ensures counted { is_listed (sink_failing self.old) (sink_calls self.old) ≡ true → sink_faults self.new ≡ min (sink_faults self.old + 1) (2 ^ 64 - 1) }
         ensures quiet { is_listed (sink_failing self.old) (sink_calls self.old) ≡ false → sink_faults self.new ≡ sink_faults self.old }

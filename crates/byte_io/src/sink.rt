@@ -1,6 +1,6 @@
 // Where a program writes.
-ghost use Rattle.std.specs.Prelude.{◌≡◌, ℕ, ◌<◌, ◌≤◌, List, length, take, Option, IfOk, OnOk, OnErr};
-ghost use Rattle.byte_io.specs.Outside.{HasCause, grown, GrewByPrefix};
+ghost use Rattle.std.specs.Prelude.{◌≡◌, ℕ, Bool, ◌<◌, ◌≤◌, List, length, take, Option, IfOk, OnOk, OnErr};
+ghost use Rattle.byte_io.specs.Outside.{HasCause, grown, GrewByPrefix, StaysSteady};
 
 /// Why a piece was not written.
 #[derive(Clone, Copy, Drop, Debug, PartialEq, Eq)]
@@ -19,6 +19,9 @@ pub trait Sink {
     /// How often a write has failed. It stays at 2^64 - 1.
     ghost faults: { Self → ℕ };
 
+    /// Whether no write fails but for want of memory.
+    ghost steady: { Self → Bool };
+
     /// Takes the front of a piece that is not empty, at least one byte of it, and tells how many.
     /// After an error nothing was taken. Failed comes only where the count of faults rose or stands at its last value.
     fn write(&mut self, piece: &[u8]) -> Result<usize, SinkFault>
@@ -27,7 +30,8 @@ pub trait Sink {
         ensures within { IfOk result (λ count. count ≤ length piece.now) }
         ensures taken { IfOk result (λ count. written self.new ≡ grown (written self.old) (take count piece.now)) }
         ensures refused { OnErr result (written self.new ≡ written self.old) }
-        ensures cause { HasCause SinkFault.Failed (faults self.old) (faults self.new) result };
+        ensures cause { HasCause SinkFault.Failed (faults self.old) (faults self.new) result }
+        ensures steady { StaysSteady (steady self.old) (steady self.new) (faults self.old) (faults self.new) };
 }
 
 /// Writes a text by as many calls as the sink needs, none for an empty text. The error is that of the
@@ -36,6 +40,7 @@ pub fn write_all<S: Sink>(out: &mut S, text: &[u8]) -> Result<(), SinkFault>
     ensures all { OnOk result (S.written out.new ≡ grown (S.written out.old) text.now) }
     ensures front { OnErr result (GrewByPrefix (S.written out.old) (S.written out.new) text.now) }
     ensures cause { HasCause SinkFault.Failed (S.faults out.old) (S.faults out.new) result }
+    ensures steady { StaysSteady (S.steady out.old) (S.steady out.new) (S.faults out.old) (S.faults out.new) }
 {
     let mut done = 0;
     while done < text.len() {
