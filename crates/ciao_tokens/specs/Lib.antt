@@ -1,0 +1,14 @@
+pub mod Characters
+pub mod Layout
+pub mod Quotes
+pub mod Forms
+pub mod Pieces
+pub mod Tokens
+pub mod Faults
+pub mod BadTokens
+pub mod Laws
+pub mod Classes
+pub mod Scanning
+pub mod PartsRead
+pub mod NumbersRead
+pub mod TokensRead
