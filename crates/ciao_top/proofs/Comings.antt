@@ -1,11 +1,11 @@
 -- How answers come out.
-use Rattle.std.proofs.Common.{◌≡◌, ◌⊎◌, inl, inr, ℕ, ◌+◌, ◌≤◌, [], ◌++◌, take, length, min, refl, ◌∙◌, sym, ap, subst, Option, Some, None, arith, append-nil}
+use Rattle.std.proofs.Common.{◌≡◌, ◌⊎◌, inl, inr, ℕ, Bool, ◌+◌, ◌≤◌, [], ◌++◌, take, length, min, refl, ◌∙◌, sym, ap, subst, Option, Some, None, arith, append-nil}
 use Rattle.std.proofs.lemmas.List.{append_assoc, take_min, take-append-le}
 use Rattle.std.proofs.Math.Seq.{take-append-add, take-append_seam}
 use Rattle.byte_io.specs.Outside.{Rose, grown, GrewByPrefix}
 use Rattle.ciao_top.specs.Words.{Word}
 use Rattle.ciao_top.specs.Answers.{IsPrefix}
-use Rattle.ciao_top.specs.InnerAnswers.{Only, HasBegun, Comes, Whole, SinkFailed, MemoryWanted, HasWritten}
+use Rattle.ciao_top.specs.InnerAnswers.{DeviceGoesOn, Only, HasBegun, Comes, Whole, SinkFailed, MemoryWanted, HasWritten}
 
 -- what was written
 
@@ -39,6 +39,22 @@ front_behind a f b is = (length a + is.0, ap (λ x. a ++ x) is.1 ∙ sym (take-a
 pub rose_later : (a b c : ℕ) → a ≤ b → Rose b c → Rose a c
 rose_later a b c le (inl lt) = inl (omega arith)
 rose_later a b c le (inr is) = inr is
+
+-- devices that go on
+
+-- where nothing was done
+pub stays : (b : Bool) (n : ℕ) → DeviceGoesOn b b n n
+stays b n = record { later = omega arith; steady = λ was. (refl, was) }
+
+-- and then went on again
+pub goes_on_twice : (a b c : Bool) (before middle now : ℕ) → DeviceGoesOn a b before middle → DeviceGoesOn b c middle now → DeviceGoesOn a c before now
+goes_on_twice a b c before middle now first second = record {
+  later = omega (first.later, second.later, arith);
+  steady = λ was.
+      let at_first = first.steady was in
+      let then_on = second.steady at_first.1 in
+      (then_on.0 ∙ at_first.0, then_on.1);
+}
 
 -- answers
 

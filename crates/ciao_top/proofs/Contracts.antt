@@ -7,7 +7,7 @@ use Rattle.machine_model.specs.Laws.{Text, OneRun, Ends}
 use Rattle.byte_io.specs.Outside.{Held, grown}
 use Rattle.ciao_top.specs.Words.{Word, RunWords, AcceptedWords}
 use Rattle.ciao_top.specs.Lines.{fault_line, file_fault, read_fault}
-use Rattle.ciao_top.specs.Answers.{RunDefined, Missing, There, Defined, NotAccepted, Runs, FileAnswers, Answered, OneAnswer, SomeAnswer, Completeness}
+use Rattle.ciao_top.specs.Answers.{RunDefined, Missing, There, Defined, NotAccepted, Runs, FileAnswers, Answered, OneAnswer, SomeAnswer, Complete}
 use Rattle.ciao_top.specs.InnerAnswers as inner
 use Rattle.ciao_top.specs.InnerAnswers.{Only, Comes, Whole, SinkFailed, MemoryWanted, RunAnswered}
 use Rattle.ciao_top.proofs.RunTexts.{same_some}
@@ -118,7 +118,7 @@ module _ (words : List Word) (command : RunWords) (is : AcceptedWords words ≡ 
   from_defined files text status (NotAccepted none l r) = absurd (none-some command (sym none ∙ is))
   from_defined files text status (Runs c is' d) = subst (λ x. RunDefined files x text status) (same_some c command (AcceptedWords words) is' is) d
 
-  from_missing : (files : Held) → files command.file ≡ None → (text : Word) (status : ℕ) → RunDefined files command text status → Only (file_fault command.file (codes "NoFile")) 3 text status
+  from_missing : (files : Held) → files command.file ≡ None → (text : Word) (status : ℕ) → RunDefined files command text status → Only (file_fault command.file 0 (codes "NoFile")) 3 text status
   from_missing files none text status (Missing n l r) = (l, r)
   from_missing files none text status (There bytes some answers) = absurd (none-some bytes (sym none ∙ some))
 
@@ -139,7 +139,7 @@ module _ (words : List Word) (command : RunWords) (is : AcceptedWords words ≡ 
   pub ran : (held : Option Held) (reading writing : Type 0) (old new : Option Word) (result : ℕ)
       → RunAnswered held command reading writing old new result → Answered held words reading writing old new result
   ran held reading writing old new result (inner.Missing none comes) =
-      answered held words (Only (file_fault command.file (codes "NoFile")) 3) reading writing old new result
+      answered held words (Only (file_fault command.file 0 (codes "NoFile")) 3) reading writing old new result
       (record {
         small = λ t s d. (of_fault s d.1).small;
         refused = λ t s d two. absurd ((of_fault s d.1).not_two two);
@@ -217,7 +217,7 @@ module _ (one_run : (text : Text) (r : Reading) (program : Program) (bound : ℕ
 
 module _ (ends : (text : Text) (r : Reading) (program : Program) → Ends text r program) where
   run_some : (held : Held) (c : RunWords) (file : Option Word) → held c.file ≡ file → ((text : Word) (status : ℕ) → RunDefined held c text status → ⊥) → ⊥
-  run_some held c None none never = never (file_fault c.file (codes "NoFile")) 3 (Missing none refl refl)
+  run_some held c None none never = never (file_fault c.file 0 (codes "NoFile")) 3 (Missing none refl refl)
   run_some held c (Some bytes) some never = file_some ends bytes c (λ t s a. never t s (There bytes some a))
 
   defined_some : (held : Held) (words : List Word) (command : Option RunWords) → AcceptedWords words ≡ command → ((text : Word) (status : ℕ) → Defined held words text status → ⊥) → ⊥
@@ -229,11 +229,12 @@ module _ (ends : (text : Text) (r : Reading) (program : Program) → Ends text r
   some_answer held words = defined_some held words (AcceptedWords words) refl
 
 -- without a rise of a count the answer is defined, or memory was wanted
-pub complete : Completeness
-complete held words r r' w w' old new status a no_read no_write = by_status (small_or_fault status a.statuses)
+pub complete : (held : Option Held) (words : List Word) (reading writing : Type 0) (old new : Option Word) (status : ℕ)
+    → Answered held words reading writing old new status → Complete held words reading writing old new status
+complete held words reading writing old new status a no_read no_write = by_status (small_or_fault status a.statuses)
   where
-    by_status : (status < 7) ⊎ ((status ≡ 7) ⊎ ((status ≡ 8) ⊎ (status ≡ 9))) → (status ≡ 9) ⊎ ((text : Word) × Defined held words text status × (new ≡ grown old text))
-    by_status (inl lt) = inr (a.defined lt)
+    by_status : (status < 7) ⊎ ((status ≡ 7) ⊎ ((status ≡ 8) ⊎ (status ≡ 9))) → IfSome held (λ files. (status ≡ 9) ⊎ ((text : Word) × Defined files words text status × (new ≡ grown old text)))
+    by_status (inl lt) = on_held held (λ files. inr) (a.defined lt)
     by_status (inr (inl e)) = absurd (no_read (a.read e))
     by_status (inr (inr (inl e))) = absurd (no_write (a.write e))
-    by_status (inr (inr (inr e))) = inl e
+    by_status (inr (inr (inr e))) = all_held held (λ files. inl e)

@@ -12,13 +12,17 @@ use Rattle.machine_model.specs.Reading.{Reading, every_condition}
 use Rattle.machine_model.specs.Run.{Run, RunsFrom, start_of}
 use Rattle.machine_model.specs.Laws.{Text, OneRun, Ends}
 use Rattle.ciao_top.specs.Words.{Word, RunWords, base_of}
+use Rattle.ciao_top.specs.declared.plain.units.Unit.{Unit}
+use Rattle.ciao_top.specs.declared.plain.units.LinkResult.{LinkResult}
+use Rattle.ciao_top.specs.declared.plain.units.LinkResult.TheVariants as link
+use Rattle.ciao_top.specs.Linked.{linked}
 use Rattle.ciao_top.specs.Lines.{fault_line, file_fault}
 use Rattle.ciao_top.specs.RunText.{RunText, ending_status}
 use Rattle.ciao_top.specs.PlainFiles.{IsPlainFile, IsQuery, with_names}
-use Rattle.ciao_top.specs.Answers.{QueryAnswers, Unread, NotExported, Ran, FileAnswers, NotBuilt, Linked}
+use Rattle.ciao_top.specs.Answers.{QueryAnswers, Unread, NotExported, Ran, UnitAnswers, FileAnswers, NotBuilt, Plain}
 use Rattle.ciao_top.specs.InnerAnswers as inner
 use Rattle.ciao_top.specs.InnerAnswers.{Only, Comes, CallAnswers}
-use Rattle.ciao_top.proofs.PlainLaws.{one_program, one_query_reading}
+use Rattle.ciao_top.proofs.PlainLaws.{one_unit, one_query_reading}
 use Rattle.ciao_top.proofs.Comings.{comes_as, comes_only}
 use Rattle.ciao_top.proofs.RunTexts.{same_some}
 
@@ -74,54 +78,68 @@ module _ (program : Program) (command : RunWords) (names : List Word) (query : T
   query_answers writing old new result comes =
       comes_as (CallAnswers (with_names names program) query command.steps) (QueryAnswers program command) writing old new result to_query from_query comes
 
+-- a unit that names a predicate without clauses: its line was told
+pub undefined : (command : RunWords) (answer : LinkResult) (line : ℕ) (writing : Type 0) (old new : Option Word) (result : ℕ)
+    → answer ≡ link.Undefined line → Comes (Only (file_fault command.file line (codes "Undefined")) 3) writing old new result
+    → Comes (UnitAnswers answer command) writing old new result
+undefined command answer line writing old new result is comes =
+    subst (λ a. Comes (UnitAnswers a command) writing old new result) (sym is) comes
+
+-- a unit that has a program: the answer of its query is the unit's
+pub unit_answers : (command : RunWords) (answer : LinkResult) (program : Program) (writing : Type 0) (old new : Option Word) (result : ℕ)
+    → answer ≡ link.Program program → Comes (QueryAnswers program command) writing old new result
+    → Comes (UnitAnswers answer command) writing old new result
+unit_answers command answer program writing old new result is comes =
+    subst (λ a. Comes (UnitAnswers a command) writing old new result) (sym is) comes
+
 -- a file that is not plain
-not_built_line : (bytes : Word) (command : RunWords) → ((program : Program) → IsPlainFile (base_of command.file) bytes program → ⊥) → (text : Word) (status : ℕ)
-    → FileAnswers bytes command text status → text ≡ file_fault command.file (codes "NotBuilt")
+not_built_line : (bytes : Word) (command : RunWords) → ((m : Unit) → IsPlainFile (base_of command.file) bytes m → ⊥) → (text : Word) (status : ℕ)
+    → FileAnswers bytes command text status → text ≡ file_fault command.file 0 (codes "NotBuilt")
 not_built_line bytes command never text status (NotBuilt n line is) = line
-not_built_line bytes command never text status (Linked program plain answers) = absurd (never program plain)
+not_built_line bytes command never text status (Plain m plain answers) = absurd (never m plain)
 
 -- its line was told
 pub not_built : (bytes : Word) (command : RunWords) (base line : Word) (writing : Type 0) (old new : Option Word) (result : ℕ)
-    → base ≡ base_of command.file → ((program : Program) → IsPlainFile base bytes program → ⊥) → line ≡ file_fault command.file (codes "NotBuilt")
+    → base ≡ base_of command.file → ((m : Unit) → IsPlainFile base bytes m → ⊥) → line ≡ file_fault command.file 0 (codes "NotBuilt")
     → Comes (Only line 3) writing old new result → Comes (FileAnswers bytes command) writing old new result
 not_built bytes command base line writing old new result is_base never same comes =
-    let none : (program : Program) → IsPlainFile (base_of command.file) bytes program → ⊥ = λ p plain. never p (subst (λ b. IsPlainFile b bytes p) (sym is_base) plain) in
+    let none : (m : Unit) → IsPlainFile (base_of command.file) bytes m → ⊥ = λ m plain. never m (subst (λ b. IsPlainFile b bytes m) (sym is_base) plain) in
     comes_only (FileAnswers bytes command) line 3 writing old new result (NotBuilt none same refl)
     (λ t s a. not_built_line bytes command none t s a ∙ sym same) comes
 
 -- a plain file
-module _ (bytes : Word) (command : RunWords) (program : Program) (plain : IsPlainFile (base_of command.file) bytes program) where
-  pub from_file : (text : Word) (status : ℕ) → FileAnswers bytes command text status → QueryAnswers program command text status
-  from_file text status (NotBuilt never line is) = absurd (never program plain)
-  from_file text status (Linked p other answers) = subst (λ x. QueryAnswers x command text status) (one_program (base_of command.file) bytes p program other plain) answers
+module _ (bytes : Word) (command : RunWords) (m : Unit) (plain : IsPlainFile (base_of command.file) bytes m) where
+  pub from_file : (text : Word) (status : ℕ) → FileAnswers bytes command text status → UnitAnswers (linked m) command text status
+  from_file text status (NotBuilt never line is) = absurd (never m plain)
+  from_file text status (Plain n other answers) = subst (λ x. UnitAnswers (linked x) command text status) (one_unit (base_of command.file) bytes n m other plain) answers
 
--- the answer of its query is the file's
-pub file_answers : (bytes : Word) (command : RunWords) (base : Word) (program : Program) (writing : Type 0) (old new : Option Word) (result : ℕ)
-    → base ≡ base_of command.file → IsPlainFile base bytes program
-    → Comes (QueryAnswers program command) writing old new result → Comes (FileAnswers bytes command) writing old new result
-file_answers bytes command base program writing old new result is_base plain comes =
-    let known : IsPlainFile (base_of command.file) bytes program = subst (λ b. IsPlainFile b bytes program) is_base plain in
-    comes_as (QueryAnswers program command) (FileAnswers bytes command) writing old new result (λ t s a. Linked program known a) (from_file bytes command program known) comes
+-- the answer of its unit is the file's
+pub file_answers : (bytes : Word) (command : RunWords) (base : Word) (m : Unit) (writing : Type 0) (old new : Option Word) (result : ℕ)
+    → base ≡ base_of command.file → IsPlainFile base bytes m
+    → Comes (UnitAnswers (linked m) command) writing old new result → Comes (FileAnswers bytes command) writing old new result
+file_answers bytes command base m writing old new result is_base plain comes =
+    let known : IsPlainFile (base_of command.file) bytes m = subst (λ b. IsPlainFile b bytes m) is_base plain in
+    comes_as (UnitAnswers (linked m) command) (FileAnswers bytes command) writing old new result (λ t s a. Plain m known a) (from_file bytes command m known) comes
 
 -- a front that is longer than a plain file
 
 front_is_whole : (most n : ℕ) (bytes : Word) → most < n → length (take n bytes) ≤ most → take n bytes ≡ bytes
 front_is_whole most n bytes lt le = take_all n bytes (omega (length-take n bytes, le, lt, arith))
 
-to_whole : (n : ℕ) (base bytes : Word) (p : Program) → 1048576 < n → IsPlainFile base (take n bytes) p → IsPlainFile base bytes p
-to_whole n base bytes p lt plain = subst (λ b. IsPlainFile base b p) (front_is_whole 1048576 n bytes lt plain.small) plain
+to_whole : (n : ℕ) (base bytes : Word) (m : Unit) → 1048576 < n → IsPlainFile base (take n bytes) m → IsPlainFile base bytes m
+to_whole n base bytes m lt plain = subst (λ b. IsPlainFile base b m) (front_is_whole 1048576 n bytes lt plain.small) plain
 
-to_front : (n : ℕ) (base bytes : Word) (p : Program) → 1048576 < n → IsPlainFile base bytes p → IsPlainFile base (take n bytes) p
-to_front n base bytes p lt plain = subst (λ b. IsPlainFile base b p) (sym (take_all n bytes (omega (plain.small, lt, arith)))) plain
+to_front : (n : ℕ) (base bytes : Word) (m : Unit) → 1048576 < n → IsPlainFile base bytes m → IsPlainFile base (take n bytes) m
+to_front n base bytes m lt plain = subst (λ b. IsPlainFile base b m) (sym (take_all n bytes (omega (plain.small, lt, arith)))) plain
 
 -- the front and the whole have the same answers
 pub answers_of_whole : (n : ℕ) (bytes : Word) (command : RunWords) → 1048576 < n → (text : Word) (status : ℕ) → FileAnswers (take n bytes) command text status → FileAnswers bytes command text status
-answers_of_whole n bytes command lt text status (NotBuilt never line is) = NotBuilt (λ p plain. never p (to_front n (base_of command.file) bytes p lt plain)) line is
-answers_of_whole n bytes command lt text status (Linked p plain answers) = Linked p (to_whole n (base_of command.file) bytes p lt plain) answers
+answers_of_whole n bytes command lt text status (NotBuilt never line is) = NotBuilt (λ m plain. never m (to_front n (base_of command.file) bytes m lt plain)) line is
+answers_of_whole n bytes command lt text status (Plain m plain answers) = Plain m (to_whole n (base_of command.file) bytes m lt plain) answers
 
 pub answers_of_front : (n : ℕ) (bytes : Word) (command : RunWords) → 1048576 < n → (text : Word) (status : ℕ) → FileAnswers bytes command text status → FileAnswers (take n bytes) command text status
-answers_of_front n bytes command lt text status (NotBuilt never line is) = NotBuilt (λ p plain. never p (to_whole n (base_of command.file) bytes p lt plain)) line is
-answers_of_front n bytes command lt text status (Linked p plain answers) = Linked p (to_front n (base_of command.file) bytes p lt plain) answers
+answers_of_front n bytes command lt text status (NotBuilt never line is) = NotBuilt (λ m plain. never m (to_whole n (base_of command.file) bytes m lt plain)) line is
+answers_of_front n bytes command lt text status (Plain m plain answers) = Plain m (to_front n (base_of command.file) bytes m lt plain) answers
 
 -- one answer
 
@@ -151,11 +169,15 @@ module _ (one_run : (text : Text) (r : Reading) (program : Program) (bound : ℕ
   query_one program command t t' s s' (Ran names query read es e run l r) b =
       call_one (with_names names program) query command.steps t t' s s' (inner.Ran es e run l r) (from_query program command names query read t' s' b)
 
+  unit_one : (answer : LinkResult) (command : RunWords) (t t' : Word) (s s' : ℕ) → UnitAnswers answer command t s → UnitAnswers answer command t' s' → (t ≡ t') × (s ≡ s')
+  unit_one (link.Undefined line) command t t' s s' a b = (a.0 ∙ sym b.0, a.1 ∙ sym b.1)
+  unit_one (link.Program program) command t t' s s' a b = query_one program command t t' s s' a b
+
   -- a file that is there has one answer
   pub file_one : (bytes : Word) (command : RunWords) (t t' : Word) (s s' : ℕ) → FileAnswers bytes command t s → FileAnswers bytes command t' s' → (t ≡ t') × (s ≡ s')
   file_one bytes command t t' s s' (NotBuilt never l r) (NotBuilt never' l' r') = (l ∙ sym l', r ∙ sym r')
-  file_one bytes command t t' s s' (NotBuilt never l r) (Linked p plain a) = absurd (never p plain)
-  file_one bytes command t t' s s' (Linked p plain a) b = query_one p command t t' s s' a (from_file bytes command p plain t' s' b)
+  file_one bytes command t t' s s' (NotBuilt never l r) (Plain m plain a) = absurd (never m plain)
+  file_one bytes command t t' s s' (Plain m plain a) b = unit_one (linked m) command t t' s s' a (from_file bytes command m plain t' s' b)
 
 -- some answer
 
@@ -172,8 +194,12 @@ module _ (ends : (text : Text) (r : Reading) (program : Program) → Ends text r
       never (fault_line (codes "query unread")) 4
       (Unread (λ names query read. call_some (with_names names program) query command.steps (called_by (with_names names program) query) refl (λ t s a. never t s (to_query program command names query read t s a))) refl refl)
 
+  unit_some : (answer : LinkResult) (command : RunWords) → ((text : Word) (status : ℕ) → UnitAnswers answer command text status → ⊥) → ⊥
+  unit_some (link.Undefined line) command never = never (file_fault command.file line (codes "Undefined")) 3 (refl, refl)
+  unit_some (link.Program program) command never = query_some program command never
+
   -- a file that is there is never without an answer
   pub file_some : (bytes : Word) (command : RunWords) → ((text : Word) (status : ℕ) → FileAnswers bytes command text status → ⊥) → ⊥
   file_some bytes command never =
-      never (file_fault command.file (codes "NotBuilt")) 3
-      (NotBuilt (λ p plain. query_some p command (λ t s a. never t s (Linked p plain a))) refl refl)
+      never (file_fault command.file 0 (codes "NotBuilt")) 3
+      (NotBuilt (λ m plain. unit_some (linked m) command (λ t s a. never t s (Plain m plain a))) refl refl)

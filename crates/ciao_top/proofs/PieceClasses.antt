@@ -3,7 +3,7 @@ use Rattle.std.proofs.Common.{◌≡◌, ℕ, Bool, true, false, refl, ap, ◌�
 use Rattle.std.proofs.lemmas.Bool.Decides.{nat_tests}
 use Rattle.std.specs.Prelude.{◌==◌, ◌||◌, if◌then◌else◌}
 use Rattle.ciao_top.specs.declared.plain.pieces.Class.{Class}
-use Rattle.ciao_top.specs.declared.plain.pieces.Class.TheVariants.{Lower, Upper, Digit, Blank, Percent, Colon, Slash, Point, Paren, CloseParen, Bracket, CloseBracket, Bar, Comma, Other}
+use Rattle.ciao_top.specs.declared.plain.pieces.Class.TheVariants.{Lower, Upper, Digit, Blank, Percent, Colon, Equals, Slash, Point, Paren, CloseParen, Bracket, CloseBracket, Bar, Comma, Other}
 use Rattle.ciao_top.specs.Words.{is_lower, is_upper, is_digit}
 use Rattle.ciao_top.specs.Pieces.{is_blank}
 use Rattle.ciao_top.specs.Scanning.{class_of, sign_class}
@@ -16,6 +16,7 @@ Says c Digit = is_digit c ≡ true
 Says c Blank = is_blank c ≡ true
 Says c Percent = c ≡ 37
 Says c Colon = c ≡ 58
+Says c Equals = c ≡ 61
 Says c Slash = c ≡ 47
 Says c Point = c ≡ 46
 Says c Paren = c ≡ 40
@@ -32,7 +33,7 @@ chosen P true x y when other = when refl
 chosen P false x y when other = other
 
 -- equal by the test is equal
-is_eq : (c n : ℕ) → (c == n) ≡ true → c ≡ n
+pub is_eq : (c n : ℕ) → (c == n) ≡ true → c ≡ n
 is_eq c n e = grind (arith, nat_tests)
 
 -- the class of a sign is true of it
@@ -45,8 +46,9 @@ sign_says c =
     (chosen (Says c) (c == 124) Bar _ (is_eq c 124)
     (chosen (Says c) (c == 44) Comma _ (is_eq c 44)
     (chosen (Says c) (c == 58) Colon _ (is_eq c 58)
+    (chosen (Says c) (c == 61) Equals _ (is_eq c 61)
     (chosen (Says c) (c == 47) Slash _ (is_eq c 47)
-    (chosen (Says c) (c == 46) Point Other (is_eq c 46) tt))))))))
+    (chosen (Says c) (c == 46) Point Other (is_eq c 46) tt)))))))))
 
 -- a byte's class is true of it
 pub class_says : (c : ℕ) → Says c (class_of c)

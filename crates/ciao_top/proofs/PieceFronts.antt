@@ -1,17 +1,16 @@
 -- The first piece of a text stands there, and no other piece does.
-use Rattle.std.proofs.Common.{◌≡◌, ℕ, ◌+◌, Bool, true, false, not, ◌&&◌, [], ◌∷◌, ◌++◌, Option, Some, None, is_some, length, inl, inr, refl, sym, ap, subst, ◌∙◌, arith}
+use Rattle.std.proofs.Common.{◌≡◌, ℕ, ◌+◌, Bool, true, false, not, ◌&&◌, [], ◌∷◌, ◌++◌, Option, Some, None, is_some, length, inl, inr, refl, sym, ap, subst, ◌∙◌}
 use Rattle.std.proofs.lemmas.Bool.{and_parts, and_from, or_left, or_right, or_cases, not-true, not-false, not_from_false, both_ways, false_from_ne_true}
-use Rattle.std.proofs.lemmas.Bool.Decides.{nat_tests}
 use Rattle.std.proofs.lemmas.List.{take-append-drop}
 use Rattle.std.specs.Prelude.{◌==◌, ◌||◌, ◌-◌, ◌*◌, ◌^◌, if◌then◌else◌, IfSome}
 use Rattle.std.specs.List.{list_all, prefix_len}
 use Rattle.ciao_top.specs.declared.plain.pieces.Class.{Class}
 use Rattle.ciao_top.specs.declared.plain.pieces.Class.TheVariants as class
 use Rattle.ciao_top.specs.Words.{Word, is_lower, is_upper, is_digit, is_name_byte, is_base_name, number_of, number_behind}
-use Rattle.ciao_top.specs.Pieces.{Piece, blank, comment, name, variable, number, neck, slash, paren, close_paren, bracket, close_bracket, bar, comma, stop, starts, is_variable_word, ends_or_starts, spelling, stands}
-use Rattle.ciao_top.specs.Scanning.{class_of, in_line, run, behind_run, Front, checked, neck_front, first_by, first_front}
+use Rattle.ciao_top.specs.Pieces.{Piece, blank, comment, name, variable, number, neck, colon, implies, slash, paren, close_paren, bracket, close_bracket, bar, comma, stop, is_symbol, starts, is_variable_word, ends_or_starts, spelling, stands}
+use Rattle.ciao_top.specs.Scanning.{class_of, in_line, run, behind_run, Front, checked, colon_front, implies_front, first_by, first_front}
 use Rattle.ciao_top.proofs.PieceRuns.{run_cons, run_passes, run_stops, run_is, behind_is}
-use Rattle.ciao_top.proofs.PieceClasses.{Says, class_says, class_lower, class_upper, class_digit, class_blank}
+use Rattle.ciao_top.proofs.PieceClasses.{Says, is_eq, class_says, class_lower, class_upper, class_digit, class_blank}
 
 -- the front stands before its text's rest
 pub record IsPrefixOf (text : Word) (f : Front) : Type 0 where
@@ -60,17 +59,22 @@ checked_stands text piece behind whole = by (stands piece behind) refl
     by true e = record { whole = whole; stand = e }
     by false e = tt
 
--- a hyphen by the test is one
-is_45 : (c : ℕ) → (c == 45) ≡ true → c ≡ 45
-is_45 c e = grind (arith, nat_tests)
-
--- a neck stands behind its colon
-neck_stands : (cs : Word) → IfSome (neck_front cs) (IsPrefixOf (58 ∷ cs))
-neck_stands [] = tt
-neck_stands (c ∷ cs) = by (c == 45) refl
+-- a neck or a colon stands behind its colon
+colon_stands : (cs : Word) → IfSome (colon_front cs) (IsPrefixOf (58 ∷ cs))
+colon_stands [] = record { whole = refl; stand = refl }
+colon_stands (c ∷ cs) = by (c == 45) refl
   where
-    by : (b : Bool) → (c == 45) ≡ b → IfSome (if b then checked neck cs else None) (IsPrefixOf (58 ∷ c ∷ cs))
-    by true e = checked_stands (58 ∷ c ∷ cs) neck cs (ap (λ x. 58 ∷ x ∷ cs) (sym (is_45 c e)))
+    by : (b : Bool) → (c == 45) ≡ b → IfSome (if b then checked neck cs else checked colon (c ∷ cs)) (IsPrefixOf (58 ∷ c ∷ cs))
+    by true e = checked_stands (58 ∷ c ∷ cs) neck cs (ap (λ x. 58 ∷ x ∷ cs) (sym (is_eq c 45 e)))
+    by false e = checked_stands (58 ∷ c ∷ cs) colon (c ∷ cs) refl
+
+-- `=>` stands behind its `=`
+implies_stands : (cs : Word) → IfSome (implies_front cs) (IsPrefixOf (61 ∷ cs))
+implies_stands [] = tt
+implies_stands (c ∷ cs) = by (c == 62) refl
+  where
+    by : (b : Bool) → (c == 62) ≡ b → IfSome (if b then checked implies cs else None) (IsPrefixOf (61 ∷ c ∷ cs))
+    by true e = checked_stands (61 ∷ c ∷ cs) implies cs (ap (λ x. 61 ∷ x ∷ cs) (sym (is_eq c 62 e)))
     by false e = tt
 
 -- the piece of a class stands, where the class is true of the byte
@@ -93,7 +97,8 @@ by_class class.Percent c cs says = record {
   whole = ap (λ w. 37 ∷ w) (take-append-drop (prefix_len in_line cs) cs) ∙ ap (λ x. x ∷ cs) (sym says);
   stand = and_from _ _ (run_passes in_line cs) (line_ends (behind_run in_line cs) (run_stops in_line cs));
 }
-by_class class.Colon c cs says = subst (λ x. IfSome (neck_front cs) (IsPrefixOf (x ∷ cs))) (sym says) (neck_stands cs)
+by_class class.Colon c cs says = subst (λ x. IfSome (colon_front cs) (IsPrefixOf (x ∷ cs))) (sym says) (colon_stands cs)
+by_class class.Equals c cs says = subst (λ x. IfSome (implies_front cs) (IsPrefixOf (x ∷ cs))) (sym says) (implies_stands cs)
 by_class class.Slash c cs says = checked_stands (c ∷ cs) slash cs (ap (λ x. x ∷ cs) (sym says))
 by_class class.Point c cs says = checked_stands (c ∷ cs) stop cs (ap (λ x. x ∷ cs) (sym says))
 by_class class.Paren c cs says = record { whole = ap (λ x. x ∷ cs) (sym says); stand = refl }
@@ -198,6 +203,15 @@ variable_first (c ∷ cs) behind stand =
     stops : starts is_name_byte behind ≡ false
     stops = not-true _ (and_parts (is_variable_word (c ∷ cs)) _ stand).1
 
+-- a colon that stands is the first piece
+colon_first : (behind : Word) → stands colon behind ≡ true → colon_front behind ≡ found colon behind
+colon_first [] stand = refl
+colon_first (c ∷ cs) stand = by (c == 45) refl
+  where
+    by : (b : Bool) → (c == 45) ≡ b → (if b then checked neck cs else checked colon (c ∷ cs)) ≡ found colon (c ∷ cs)
+    by true e = absurd (both_ways (is_symbol c) (not-true _ stand) (ap is_symbol (is_eq c 45 e)))
+    by false e = checked_is colon (c ∷ cs) stand
+
 -- a piece that stands at the front of a text is its first piece
 pub first_is : (piece : Piece) (behind : Word) → stands piece behind ≡ true → first_front (spelling piece ++ behind) ≡ found piece behind
 first_is (blank c) behind stand = at_class class.Blank c behind _ (class_blank c stand) refl
@@ -210,6 +224,8 @@ first_is (name word) behind stand = name_first word behind stand
 first_is (variable word) behind stand = variable_first word behind stand
 first_is (number word) behind stand = number_first word behind stand
 first_is neck behind stand = checked_is neck behind stand
+first_is colon behind stand = colon_first behind stand
+first_is implies behind stand = checked_is implies behind stand
 first_is slash behind stand = checked_is slash behind stand
 first_is paren behind stand = refl
 first_is close_paren behind stand = refl

@@ -5,11 +5,11 @@ use Rattle.std.specs.List.{list_any, position_or_len}
 use Rattle.std.proofs.lemmas.List.Folds.{list_any-append}
 use Rattle.std.proofs.lemmas.Slice.Eq.{bytes_eq-Decides}
 use Rattle.term_core.specs.Names.{fixed_names, place_of, with_text}
-use Rattle.prog_data.specs.declared.programs.Program.{Program}
 use Rattle.ciao_top.specs.Words.{Word}
 use Rattle.ciao_top.specs.Pieces.{Piece}
 use Rattle.ciao_top.specs.Pieces as piece
 use Rattle.ciao_top.specs.declared.plain.tokens.Token.{Token}
+use Rattle.ciao_top.specs.declared.plain.units.Unit.{Unit}
 use Rattle.ciao_top.specs.Tokens.{names_with, tokens_of}
 use Rattle.ciao_top.specs.PlainFiles.{file_text, names_of}
 use Rattle.ciao_top.specs.PlainSteps.{TokensGive}
@@ -79,15 +79,15 @@ are_of base text pieces first old new file tokens fixed is with at more cut = re
     named = more ∙ ap (λ ns. names_with ns pieces) (with ∙ ap (λ t. with_text first t) is ∙ ap (λ ns. with_text ns (file_text base)) fixed)
 
 -- what they give is what the pieces give
-pub give_there : (base : Word) (pieces : List Piece) (names : List Word) (file : ℕ) (tokens : List Token) (p : Program) → AreOf base pieces names file tokens → TokensGive names file base tokens p → PiecesGive base pieces p
-give_there base pieces names file tokens p are a =
-    subst (λ ts. TokensGive (names_of base pieces) (place_of (file_text base) (names_of base pieces)) base ts p) are.cut
-    (subst (λ n. TokensGive (names_of base pieces) n base tokens p) are.filed
-    (subst (λ ns. TokensGive ns file base tokens p) are.named a))
+pub give_there : (base : Word) (pieces : List Piece) (names : List Word) (file : ℕ) (tokens : List Token) (m : Unit) → AreOf base pieces names file tokens → TokensGive names file base tokens m → PiecesGive base pieces m
+give_there base pieces names file tokens m are a =
+    subst (λ ts. TokensGive (names_of base pieces) (place_of (file_text base) (names_of base pieces)) base ts m) are.cut
+    (subst (λ n. TokensGive (names_of base pieces) n base tokens m) are.filed
+    (subst (λ ns. TokensGive ns file base tokens m) are.named a))
 
 -- and the other way round
-pub give_here : (base : Word) (pieces : List Piece) (names : List Word) (file : ℕ) (tokens : List Token) (p : Program) → AreOf base pieces names file tokens → PiecesGive base pieces p → TokensGive names file base tokens p
-give_here base pieces names file tokens p are a =
-    subst (λ ns. TokensGive ns file base tokens p) (sym are.named)
-    (subst (λ n. TokensGive (names_of base pieces) n base tokens p) (sym are.filed)
-    (subst (λ ts. TokensGive (names_of base pieces) (place_of (file_text base) (names_of base pieces)) base ts p) (sym are.cut) a))
+pub give_here : (base : Word) (pieces : List Piece) (names : List Word) (file : ℕ) (tokens : List Token) (m : Unit) → AreOf base pieces names file tokens → PiecesGive base pieces m → TokensGive names file base tokens m
+give_here base pieces names file tokens m are a =
+    subst (λ ns. TokensGive ns file base tokens m) (sym are.named)
+    (subst (λ n. TokensGive (names_of base pieces) n base tokens m) (sym are.filed)
+    (subst (λ ts. TokensGive (names_of base pieces) (place_of (file_text base) (names_of base pieces)) base ts m) (sym are.cut) a))

@@ -5,7 +5,10 @@ use Rattle.prog_data.specs.declared.events.Ending.{Ending}
 use Rattle.prog_data.specs.declared.events.Ending.TheVariants.{NoMore, Bound, Violated, Cyclic, Arithmetic}
 use Rattle.ciao_top.specs.Words.{Word, RunWords}
 use Rattle.ciao_top.specs.RunText.{ending_status}
-use Rattle.ciao_top.specs.Answers.{QueryAnswers, Unread, NotExported, Ran, FileAnswers, NotBuilt, Linked}
+use Rattle.ciao_top.specs.declared.plain.units.LinkResult.{LinkResult}
+use Rattle.ciao_top.specs.declared.plain.units.LinkResult.TheVariants as link
+use Rattle.ciao_top.specs.Linked.{linked}
+use Rattle.ciao_top.specs.Answers.{QueryAnswers, Unread, NotExported, Ran, UnitAnswers, FileAnswers, NotBuilt, Plain}
 
 -- two numbers in order are not equal
 pub apart : (a b : ℕ) → a < b → a ≡ b → ⊥
@@ -36,14 +39,18 @@ of_query program command text status (Unread never line is) = of_number 4 status
 of_query program command text status (NotExported names query read none line is) = of_number 4 status is (omega arith) (λ x. apart 2 4 (omega arith) (sym x))
 of_query program command text status (Ran names query read events e run text_is is) = of_ending e status is
 
--- the status of a fault of a whole file
+-- the status of a fault of a file
 pub of_fault : (status : ℕ) → status ≡ 3 → IsOfRun status
 of_fault status is = of_number 3 status is (omega arith) (λ x. apart 2 3 (omega arith) (sym x))
+
+of_unit : (answer : LinkResult) (command : RunWords) (text : Word) (status : ℕ) → UnitAnswers answer command text status → IsOfRun status
+of_unit (link.Undefined line) command text status answers = of_fault status answers.1
+of_unit (link.Program program) command text status answers = of_query program command text status answers
 
 -- the status of a file that is there
 pub of_file : (bytes : Word) (command : RunWords) (text : Word) (status : ℕ) → FileAnswers bytes command text status → IsOfRun status
 of_file bytes command text status (NotBuilt never line is) = of_fault status is
-of_file bytes command text status (Linked program plain answers) = of_query program command text status answers
+of_file bytes command text status (Plain m plain answers) = of_unit (linked m) command text status answers
 
 -- a status is below 7 or a fault of a device or want of memory
 pub small_or_fault : (s : ℕ) → s ≤ 9 → (s < 7) ⊎ ((s ≡ 7) ⊎ ((s ≡ 8) ⊎ (s ≡ 9)))

@@ -6,7 +6,7 @@ use Rattle.term_core.specs.Terms.{depth_of, depth_step}
 use Rattle.term_core.specs.Names.{nil}
 use Rattle.term_core.proofs.TermFolds.{fold-Var, fold-Int, fold-Atom}
 use Rattle.ciao_top.specs.declared.plain.tokens.Kind.{Kind}
-use Rattle.ciao_top.specs.declared.plain.tokens.Kind.TheVariants.{Name, Variable, Number, Neck, Slash, CallParen, Paren, CloseParen, Bracket, CloseBracket, Bar, Comma, Stop}
+use Rattle.ciao_top.specs.declared.plain.tokens.Kind.TheVariants.{Name, Variable, Number, Neck, Colon, Implies, Slash, CallParen, Paren, CloseParen, Bracket, CloseBracket, Bar, Comma, Stop}
 use Rattle.ciao_top.specs.declared.plain.terms.Parsed.{Parsed}
 use Rattle.ciao_top.specs.PlainTerms as written
 use Rattle.ciao_top.specs.PlainTerms.{Begins, variable, number, no_items, BeginsItems, BeginsTail, ends, is_operator, is_plain, is_plain_step}
@@ -71,7 +71,7 @@ none_other depth ks e = record { none = λ t l r. at ks e t l (first t ks l r.sp
     at other e t l f = f
 
 -- none of these tokens may begin a term
-pub other_term : (k : Kind) (ks : List Kind) → ((k ≡ Neck) ⊎ ((k ≡ Slash) ⊎ ((k ≡ CallParen) ⊎ ((k ≡ Paren) ⊎ ((k ≡ CloseParen) ⊎ ((k ≡ CloseBracket) ⊎ ((k ≡ Bar) ⊎ ((k ≡ Comma) ⊎ ((v : ℕ) × (k ≡ Stop v)))))))))) → begins_term (k ∷ ks) ≡ false
+pub other_term : (k : Kind) (ks : List Kind) → ((k ≡ Neck) ⊎ ((k ≡ Colon) ⊎ ((k ≡ Implies) ⊎ ((k ≡ Slash) ⊎ ((k ≡ CallParen) ⊎ ((k ≡ Paren) ⊎ ((k ≡ CloseParen) ⊎ ((k ≡ CloseBracket) ⊎ ((k ≡ Bar) ⊎ ((k ≡ Comma) ⊎ ((v : ℕ) × (k ≡ Stop v)))))))))))) → begins_term (k ∷ ks) ≡ false
 other_term k ks (inl e) = ap (λ x. begins_term (x ∷ ks)) e
 other_term k ks (inr (inl e)) = ap (λ x. begins_term (x ∷ ks)) e
 other_term k ks (inr (inr (inl e))) = ap (λ x. begins_term (x ∷ ks)) e
@@ -80,7 +80,9 @@ other_term k ks (inr (inr (inr (inr (inl e))))) = ap (λ x. begins_term (x ∷ k
 other_term k ks (inr (inr (inr (inr (inr (inl e)))))) = ap (λ x. begins_term (x ∷ ks)) e
 other_term k ks (inr (inr (inr (inr (inr (inr (inl e))))))) = ap (λ x. begins_term (x ∷ ks)) e
 other_term k ks (inr (inr (inr (inr (inr (inr (inr (inl e)))))))) = ap (λ x. begins_term (x ∷ ks)) e
-other_term k ks (inr (inr (inr (inr (inr (inr (inr (inr e)))))))) = ap (λ x. begins_term (x ∷ ks)) e.1
+other_term k ks (inr (inr (inr (inr (inr (inr (inr (inr (inl e))))))))) = ap (λ x. begins_term (x ∷ ks)) e
+other_term k ks (inr (inr (inr (inr (inr (inr (inr (inr (inr (inl e)))))))))) = ap (λ x. begins_term (x ∷ ks)) e
+other_term k ks (inr (inr (inr (inr (inr (inr (inr (inr (inr (inr e)))))))))) = ap (λ x. begins_term (x ∷ ks)) e.1
 
 -- whether tokens may begin a tail
 abbrev pub begins_tail : List Kind → Bool
@@ -100,7 +102,7 @@ none_other_tail depth ks e = record { none = λ t l r. at ks e t l (tail_first t
     at other e t l f = f
 
 -- none of these tokens may begin a tail
-pub other_tail : (k : Kind) (ks : List Kind) → (((v : ℕ) × (k ≡ Name v)) ⊎ (((v : ℕ) × (k ≡ Variable v)) ⊎ (((v : ℤ) × (k ≡ Number v)) ⊎ ((k ≡ Neck) ⊎ ((k ≡ Slash) ⊎ ((k ≡ CallParen) ⊎ ((k ≡ Paren) ⊎ ((k ≡ CloseParen) ⊎ ((k ≡ Bracket) ⊎ ((v : ℕ) × (k ≡ Stop v))))))))))) → begins_tail (k ∷ ks) ≡ false
+pub other_tail : (k : Kind) (ks : List Kind) → (((v : ℕ) × (k ≡ Name v)) ⊎ (((v : ℕ) × (k ≡ Variable v)) ⊎ (((v : ℤ) × (k ≡ Number v)) ⊎ ((k ≡ Neck) ⊎ ((k ≡ Colon) ⊎ ((k ≡ Implies) ⊎ ((k ≡ Slash) ⊎ ((k ≡ CallParen) ⊎ ((k ≡ Paren) ⊎ ((k ≡ CloseParen) ⊎ ((k ≡ Bracket) ⊎ ((v : ℕ) × (k ≡ Stop v))))))))))))) → begins_tail (k ∷ ks) ≡ false
 other_tail k ks (inl e) = ap (λ x. begins_tail (x ∷ ks)) e.1
 other_tail k ks (inr (inl e)) = ap (λ x. begins_tail (x ∷ ks)) e.1
 other_tail k ks (inr (inr (inl e))) = ap (λ x. begins_tail (x ∷ ks)) e.1
@@ -110,7 +112,9 @@ other_tail k ks (inr (inr (inr (inr (inr (inl e)))))) = ap (λ x. begins_tail (x
 other_tail k ks (inr (inr (inr (inr (inr (inr (inl e))))))) = ap (λ x. begins_tail (x ∷ ks)) e
 other_tail k ks (inr (inr (inr (inr (inr (inr (inr (inl e)))))))) = ap (λ x. begins_tail (x ∷ ks)) e
 other_tail k ks (inr (inr (inr (inr (inr (inr (inr (inr (inl e))))))))) = ap (λ x. begins_tail (x ∷ ks)) e
-other_tail k ks (inr (inr (inr (inr (inr (inr (inr (inr (inr e))))))))) = ap (λ x. begins_tail (x ∷ ks)) e.1
+other_tail k ks (inr (inr (inr (inr (inr (inr (inr (inr (inr (inl e)))))))))) = ap (λ x. begins_tail (x ∷ ks)) e
+other_tail k ks (inr (inr (inr (inr (inr (inr (inr (inr (inr (inr (inl e))))))))))) = ap (λ x. begins_tail (x ∷ ks)) e
+other_tail k ks (inr (inr (inr (inr (inr (inr (inr (inr (inr (inr (inr e))))))))))) = ap (λ x. begins_tail (x ∷ ks)) e.1
 
 -- names
 

@@ -18,11 +18,11 @@ use Rattle.ciao_top.proofs.TermReadings.{first, NameFirst, of_atom, of_node, Bra
 -- tests
 
 -- both tests pass where their `&&` does
-and_first : (a b : Bool) → (a && b) ≡ true → a ≡ true
+pub and_first : (a b : Bool) → (a && b) ≡ true → a ≡ true
 and_first true b e = refl
 and_first false b e = e
 
-and_second : (a b : Bool) → (a && b) ≡ true → b ≡ true
+pub and_second : (a b : Bool) → (a && b) ≡ true → b ≡ true
 and_second true b e = e
 and_second false b e = absurd (true≢false (sym e))
 
@@ -38,7 +38,7 @@ all_map test (x ∷ xs) = ap (λ b. test x && b) (all_map test xs)
 -- places
 
 -- where the tokens from a place on begin with one that a test knows, it stands at that place
-headed : (P : List Kind → Bool) (k : Kind) → ((ks : List Kind) → P ks ≡ true → ks ≡ k ∷ drop 1 ks) → (kinds : List Kind) (at : ℕ) → P (drop at kinds) ≡ true → drop at kinds ≡ k ∷ drop (at + 1) kinds
+pub headed : (P : List Kind → Bool) (k : Kind) → ((ks : List Kind) → P ks ≡ true → ks ≡ k ∷ drop 1 ks) → (kinds : List Kind) (at : ℕ) → P (drop at kinds) ≡ true → drop at kinds ≡ k ∷ drop (at + 1) kinds
 headed P k head kinds at e = head (drop at kinds) e ∙ ap (λ ks. k ∷ ks) (drop-drop 1 at kinds)
 
 -- a parenthesis directly behind a name
@@ -103,7 +103,7 @@ plain_node f ts p =
     )
 
 -- what makes a compound plain
-node_plain : (f : ℕ) (ts : List Term) → is_operator f ≡ false → 1 ≤ length ts → length ts ≤ 255 → list_all is_plain ts ≡ true → is_plain (Node f ts) ≡ true
+pub node_plain : (f : ℕ) (ts : List Term) → is_operator f ≡ false → 1 ≤ length ts → length ts ≤ 255 → list_all is_plain ts ≡ true → is_plain (Node f ts) ≡ true
 node_plain f ts o l m a =
     fold-Node Bool is_plain_step f ts ∙
     both_true (ap not o) (both_true (le-leb 1 _ (subst (λ n. 1 ≤ n) (sym (length-map ts is_plain)) l)) (both_true (le-leb _ 255 (subst (λ n. n ≤ 255) (sym (length-map ts is_plain)) m)) (all_map is_plain ts ∙ a)))

@@ -6,7 +6,7 @@ use Rattle.std.specs.Prelude.{IfSome}
 use Rattle.ciao_top.specs.Words.{Word}
 use Rattle.ciao_top.specs.declared.plain.tokens.Kind.TheVariants as kind
 use Rattle.ciao_top.specs.declared.plain.tokens.Token.{Token}
-use Rattle.ciao_top.specs.Pieces.{Piece, blank, comment, name, variable, number, neck, slash, paren, close_paren, bracket, close_bracket, bar, comma, stop, spelling, stands, joined, all_stand, IsCut}
+use Rattle.ciao_top.specs.Pieces.{Piece, blank, comment, name, variable, number, neck, colon, implies, slash, paren, close_paren, bracket, close_bracket, bar, comma, stop, spelling, stands, joined, all_stand, IsCut}
 use Rattle.ciao_top.specs.Scanning.{Front, first_front}
 use Rattle.ciao_top.specs.Tokens.{names_with, tokens_from, tokens_of, HasTokens}
 use Rattle.ciao_top.specs.TokenSteps.{Stand, after}
@@ -30,6 +30,8 @@ from_after names s (name word) ps = one_more s.tokens _ _
 from_after names s (variable word) ps = one_more s.tokens _ _
 from_after names s (number digits) ps = one_more s.tokens _ _
 from_after names s neck ps = one_more s.tokens _ _
+from_after names s colon ps = one_more s.tokens _ _
+from_after names s implies ps = one_more s.tokens _ _
 from_after names s slash ps = one_more s.tokens _ _
 from_after names s paren ps = one_more s.tokens _ _
 from_after names s close_paren ps = one_more s.tokens _ _
@@ -48,6 +50,8 @@ after_kept names s (comment text) ps = refl
 after_kept names s (variable word) ps = refl
 after_kept names s (number digits) ps = refl
 after_kept names s neck ps = refl
+after_kept names s colon ps = refl
+after_kept names s implies ps = refl
 after_kept names s slash ps = refl
 after_kept names s paren ps = refl
 after_kept names s close_paren ps = refl
@@ -65,6 +69,8 @@ names_more names (comment text) ps = refl
 names_more names (variable word) ps = refl
 names_more names (number digits) ps = refl
 names_more names neck ps = refl
+names_more names colon ps = refl
+names_more names implies ps = refl
 names_more names slash ps = refl
 names_more names paren ps = refl
 names_more names close_paren ps = refl
@@ -178,6 +184,8 @@ spelled (number (c ∷ cs)) behind e = omega arith
 spelled (comment text) behind e = omega arith
 spelled (blank c) behind e = omega arith
 spelled neck behind e = omega arith
+spelled colon behind e = omega arith
+spelled implies behind e = omega arith
 spelled slash behind e = omega arith
 spelled paren behind e = omega arith
 spelled close_paren behind e = omega arith

@@ -8,7 +8,7 @@ use Rattle.std.specs.List.{list_any, position_or_len}
 use Rattle.term_core.specs.Names.{place_of, with_text, IsPrefix}
 use Rattle.term_core.proofs.TextLemmas.{front_with}
 use Rattle.ciao_top.specs.Words.{Word}
-use Rattle.ciao_top.specs.Pieces.{Piece, blank, comment, name, variable, number, neck, slash, paren, close_paren, bracket, close_bracket, bar, comma, stop}
+use Rattle.ciao_top.specs.Pieces.{Piece, blank, comment, name, variable, number, neck, colon, implies, slash, paren, close_paren, bracket, close_bracket, bar, comma, stop}
 use Rattle.ciao_top.specs.Tokens.{names_with}
 
 -- fronts
@@ -30,6 +30,8 @@ front_names names (comment text ∷ ps) = front_names names ps
 front_names names (variable word ∷ ps) = front_names names ps
 front_names names (number word ∷ ps) = front_names names ps
 front_names names (neck ∷ ps) = front_names names ps
+front_names names (colon ∷ ps) = front_names names ps
+front_names names (implies ∷ ps) = front_names names ps
 front_names names (slash ∷ ps) = front_names names ps
 front_names names (paren ∷ ps) = front_names names ps
 front_names names (close_paren ∷ ps) = front_names names ps

@@ -3,7 +3,7 @@ use Rattle.std.proofs.Common.{◌≡◌, ℕ, List, [], ◌∷◌, ◌++◌, Opt
 use Rattle.std.proofs.lemmas.List.{append-nil}
 use Rattle.std.specs.Prelude.{option_map, option_and_then}
 use Rattle.ciao_top.specs.declared.plain.tokens.Kind.{Kind}
-use Rattle.ciao_top.specs.declared.plain.tokens.Kind.TheVariants.{Name, Variable, Number, Neck, Slash, CallParen, Paren, CloseParen, Bracket, CloseBracket, Bar, Comma, Stop}
+use Rattle.ciao_top.specs.declared.plain.tokens.Kind.TheVariants.{Name, Variable, Number, Neck, Colon, Implies, Slash, CallParen, Paren, CloseParen, Bracket, CloseBracket, Bar, Comma, Stop}
 use Rattle.ciao_top.specs.declared.plain.tokens.Token.{Token}
 use Rattle.ciao_top.specs.declared.plain.tokens.Sentence.{Sentence}
 use Rattle.ciao_top.specs.declared.plain.tokens.ReadSentences.{ReadSentences}
@@ -17,6 +17,8 @@ no_stop (Name n) not_one = refl
 no_stop (Variable n) not_one = refl
 no_stop (Number n) not_one = refl
 no_stop Neck not_one = refl
+no_stop Colon not_one = refl
+no_stop Implies not_one = refl
 no_stop Slash not_one = refl
 no_stop CallParen not_one = refl
 no_stop Paren not_one = refl
@@ -49,6 +51,8 @@ is_by_stop (Name n) line ss = refl
 is_by_stop (Variable n) line ss = refl
 is_by_stop (Number n) line ss = refl
 is_by_stop Neck line ss = refl
+is_by_stop Colon line ss = refl
+is_by_stop Implies line ss = refl
 is_by_stop Slash line ss = refl
 is_by_stop CallParen line ss = refl
 is_by_stop Paren line ss = refl

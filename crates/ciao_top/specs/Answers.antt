@@ -9,7 +9,11 @@ use Rattle.prog_data.specs.declared.events.Event.{Event}
 use Rattle.prog_data.specs.declared.events.Ending.{Ending}
 use Rattle.prog_data.specs.Goals.{called_by}
 use Rattle.machine_model.specs.Run.{Run}
+use Rattle.ciao_top.specs.declared.plain.units.Unit.{Unit}
+use Rattle.ciao_top.specs.declared.plain.units.LinkResult.{LinkResult}
+use Rattle.ciao_top.specs.declared.plain.units.LinkResult.TheVariants as link
 use Rattle.ciao_top.specs.PlainFiles.{IsPlainFile, IsQuery, with_names}
+use Rattle.ciao_top.specs.Linked.{linked}
 use Rattle.ciao_top.specs.RunText.{RunText, ending_status}
 use Rattle.ciao_top.specs.Lines.{fault_line, file_fault, read_fault}
 
@@ -24,16 +28,21 @@ pub data QueryAnswers (program : Program) (command : RunWords) (text : Word) (st
       → (events : List Event) (e : Ending) → Run (λ quoted. Printed names) (with_names names program) query command.steps events e
       → text ≡ RunText (with_names names program) events e → status ≡ ending_status e → QueryAnswers program command text status
 
--- the text and the status of a file that is there: it is no plain file, or the program of one
+-- the text and the status of a unit: the least line that names a predicate without clauses, or the answers of its program
+abbrev pub UnitAnswers : LinkResult → RunWords → Word → ℕ → Type 0
+UnitAnswers (link.Undefined line) command text status = (text ≡ file_fault command.file line (codes "Undefined")) × (status ≡ 3)
+UnitAnswers (link.Program program) command text status = QueryAnswers program command text status
+
+-- the text and the status of a file that is there: it is no plain file, or it is one
 pub data FileAnswers (bytes : Word) (command : RunWords) (text : Word) (status : ℕ) : Type 0 where
-  NotBuilt : ((program : Program) → IsPlainFile (base_of command.file) bytes program → ⊥)
-      → text ≡ file_fault command.file (codes "NotBuilt") → status ≡ 3 → FileAnswers bytes command text status
-  Linked : (program : Program) → IsPlainFile (base_of command.file) bytes program
-      → QueryAnswers program command text status → FileAnswers bytes command text status
+  NotBuilt : ((m : Unit) → IsPlainFile (base_of command.file) bytes m → ⊥)
+      → text ≡ file_fault command.file 0 (codes "NotBuilt") → status ≡ 3 → FileAnswers bytes command text status
+  Plain : (m : Unit) → IsPlainFile (base_of command.file) bytes m
+      → UnitAnswers (linked m) command text status → FileAnswers bytes command text status
 
 -- the text and the status of `run`
 pub data RunDefined (held : Held) (command : RunWords) (text : Word) (status : ℕ) : Type 0 where
-  Missing : held command.file ≡ None → text ≡ file_fault command.file (codes "NoFile") → status ≡ 3 → RunDefined held command text status
+  Missing : held command.file ≡ None → text ≡ file_fault command.file 0 (codes "NoFile") → status ≡ 3 → RunDefined held command text status
   There : (bytes : Word) → held command.file ≡ Some bytes → FileAnswers bytes command text status → RunDefined held command text status
 
 -- Defined: the text and the status for these files and words. It knows of no call and no fault of a device.
@@ -80,9 +89,14 @@ OneAnswer = (held : Held) (words : List Word) (text text' : Word) (status status
 abbrev pub SomeAnswer : Type 0
 SomeAnswer = (held : Held) (words : List Word) → ((text : Word) (status : ℕ) → Defined held words text status → ⊥) → ⊥
 
--- the law of completeness: without a rise of a count the text and the status are the defined ones, or memory was wanted
+-- completeness: without a rise of a count the text and the status are the defined ones, or memory was wanted
+abbrev pub Complete : Option Held → List Word → Type 0 → Type 0 → Option Word → Option Word → ℕ → Type 0
+Complete held words reading writing old new status =
+    (reading → ⊥) → (writing → ⊥)
+    → IfSome held (λ files. (status ≡ 9) ⊎ ((text : Word) × Defined files words text status × (new ≡ grown old text)))
+
+-- the law that the contract of the tool is complete
 abbrev pub Completeness : Type 0
-Completeness = (held : Held) (words : List Word) (reads reads' writes writes' : ℕ) (old new : Option Word) (status : ℕ)
-    → Answered (Some held) words (Rose reads reads') (Rose writes writes') old new status
-    → (Rose reads reads' → ⊥) → (Rose writes writes' → ⊥)
-    → (status ≡ 9) ⊎ ((text : Word) × Defined held words text status × (new ≡ grown old text))
+Completeness = (held : Option Held) (words : List Word) (reads reads' writes writes' : ℕ) (old new : Option Word) (status : ℕ)
+    → Answered held words (Rose reads reads') (Rose writes writes') old new status
+    → Complete held words (Rose reads reads') (Rose writes writes') old new status

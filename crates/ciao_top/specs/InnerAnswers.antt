@@ -1,6 +1,6 @@
 -- What the inner functions of the tool answer.
-use Rattle.std.specs.Prelude.{◌≡◌, ℕ, List, ◌++◌, take, Option, Some, None, IfSome, codes}
-use Rattle.byte_io.specs.Outside.{Held, grown}
+use Rattle.std.specs.Prelude.{◌≡◌, ◌≤◌, ℕ, Bool, List, ◌++◌, take, Option, Some, None, IfSome, codes}
+use Rattle.byte_io.specs.Outside.{Held, grown, StaysSteady}
 use Rattle.term_core.specs.declared.terms.Term.{Term}
 use Rattle.term_core.specs.Printing.{Printed}
 use Rattle.prog_data.specs.declared.programs.Program.{Program}
@@ -21,6 +21,11 @@ use Rattle.ciao_top.specs.Answers.{IsPrefix, FileAnswers}
 -- a command as the code has it
 abbrev pub run_words : RunCommand → RunWords
 run_words command = record { file = command.file.now; query = command.query.now; steps = command.steps }
+
+-- a sink, or the files, go on: the count of faults did not fall, and it is as before where no call fails but for want of memory
+pub record DeviceGoesOn (was is : Bool) (before now : ℕ) : Type 0 where
+  pub later : before ≤ now
+  pub steady : StaysSteady was is before now
 
 -- the definition of just this text with this status
 abbrev pub Only : Word → ℕ → Word → ℕ → Type 0
@@ -80,7 +85,7 @@ pub data CallAnswers (program : Program) (query : Term) (bound : ℕ) (text : Wo
 -- how a run of accepted words comes out
 pub data RunAnswered (held : Option Held) (command : RunWords) (reading writing : Type 0) (old new : Option Word) (result : ℕ) : Type 0 where
   Missing : IfSome held (λ files. files command.file ≡ None)
-      → Comes (Only (file_fault command.file (codes "NoFile")) 3) writing old new result → RunAnswered held command reading writing old new result
+      → Comes (Only (file_fault command.file 0 (codes "NoFile")) 3) writing old new result → RunAnswered held command reading writing old new result
   -- the bytes that were read are those of the file, or a front that is longer than a plain file
   There : (bytes : Word) → IfSome held (λ files. (whole : Word) × (files command.file ≡ Some whole) × (bytes ≡ take 1048577 whole))
       → Comes (FileAnswers bytes command) writing old new result → RunAnswered held command reading writing old new result

@@ -8,11 +8,15 @@ pub mod TokenGroups
 pub mod PlainTerms
 pub mod PlainSentences
 pub mod PlainNames
+pub mod Keys
+pub mod Conditions
 pub mod Linked
+pub mod PlainAssertions
 pub mod TermReadings
 pub mod DirectiveReadings
 pub mod PlainFiles
 pub mod ClauseReadings
+pub mod AssertionReadings
 pub mod PlainSteps
 pub mod RunText
 pub mod Answers

@@ -1,8 +1,8 @@
--- The program of the clauses of one file.
-use Rattle.std.specs.Prelude.{ℕ, Bool, ◌&&◌, ◌==◌, List, [], ◌∷◌, ◌++◌, map, filter, length, Option, Some, None, if◌then◌else◌}
-use Rattle.std.specs.List.{list_all, list_any, position_or_len}
+-- The program of one file.
+use Rattle.std.specs.Prelude.{ℕ, min, Bool, not, List, [], ◌∷◌, ◌++◌, map, filter, Option, Some, None, if◌then◌else◌}
+use Rattle.std.specs.Option.{option_map_or}
+use Rattle.std.specs.List.{list_any, position_or_len}
 use Rattle.term_core.specs.declared.terms.Term.{Term, out-Term}
-use Rattle.term_core.specs.declared.terms.Term.TheOpen.{Term-F, Var, Int, Atom, Node}
 use Rattle.prog_data.specs.declared.goals.Goal.{Goal}
 use Rattle.prog_data.specs.declared.goals.Goal as goal
 use Rattle.prog_data.specs.declared.programs.Clause.{Clause}
@@ -10,24 +10,17 @@ use Rattle.prog_data.specs.declared.programs.Pred.{Pred}
 use Rattle.prog_data.specs.declared.programs.Program.{Program}
 use Rattle.prog_data.specs.Goals.{parts_of}
 use Rattle.prog_data.specs.BasicNames.{basic_grammar}
-use Rattle.ciao_top.specs.Words.{Word}
+use Rattle.prog_data.specs.declared.conditions.Cond.{Cond}
 use Rattle.ciao_top.specs.declared.plain.clauses.Key.{Key}
 use Rattle.ciao_top.specs.declared.plain.clauses.ReadClause.{ReadClause}
-
--- the name and the number of arguments of a call; those of `[]` for a variable or a number, which is no call
-abbrev pub key_at : Term-F Term → Key
-key_at (Var v) = record { name = 0; arity = 0 }
-key_at (Int n) = record { name = 0; arity = 0 }
-key_at (Atom a) = record { name = a; arity = 0 }
-key_at (Node f parts) = record { name = f; arity = length parts }
-
--- the name and the number of arguments of a head or a goal
-abbrev pub key_of : Term → Key
-key_of t = key_at (out-Term t)
-
--- whether two keys are the same
-abbrev pub same_key : Key → Key → Bool
-same_key a b = (a.name == b.name) && (a.arity == b.arity)
+use Rattle.ciao_top.specs.declared.plain.assertions.ReadAssertion.{ReadAssertion}
+use Rattle.ciao_top.specs.declared.plain.units.Unit.{Unit}
+use Rattle.ciao_top.specs.declared.plain.units.ReadSentence.{ReadSentence}
+use Rattle.ciao_top.specs.declared.plain.units.ReadSentence.TheVariants as read
+use Rattle.ciao_top.specs.declared.plain.units.LinkResult.{LinkResult}
+use Rattle.ciao_top.specs.declared.plain.units.LinkResult.TheVariants as link
+use Rattle.ciao_top.specs.Keys.{key_of, same_key}
+use Rattle.ciao_top.specs.Conditions.{conditions_from, numbers_of}
 
 -- with the key at the end, where it is new
 abbrev pub with_key : List Key → Key → List Key
@@ -70,42 +63,83 @@ module _ (keys : List Key) where
     place = record { file = file; line = c.line };
   }
 
-  -- whether each goal and each export names a predicate that has clauses
-  abbrev pub all_defined : List Key → List ReadClause → Bool
-  all_defined exports clauses = list_all is_defined exports && list_all (λ c. list_all (λ t. is_defined (key_of t)) c.written.goals) clauses
-
 -- whether a clause is of the predicate
 abbrev pub is_clause_of : Key → ReadClause → Bool
 is_clause_of key c = same_key key (key_of c.written.head)
 
--- a predicate of the module with its clauses in order
-abbrev pub pred_with : List Key → ℕ → ℕ → List ReadClause → Key → Pred
-pred_with keys file module_name clauses key = record {
-  «module» = module_name;
+-- the clauses and the assertions of sentences, in order
+abbrev pub clauses_of : List ReadSentence → List ReadClause
+clauses_of [] = []
+clauses_of (read.Clause c ∷ ss) = c ∷ clauses_of ss
+clauses_of (read.Assertion a ∷ ss) = clauses_of ss
+
+abbrev pub assertions_of : List ReadSentence → List ReadAssertion
+assertions_of [] = []
+assertions_of (read.Clause c ∷ ss) = assertions_of ss
+assertions_of (read.Assertion a ∷ ss) = a ∷ assertions_of ss
+
+-- the predicates of a unit, numbered by their first clauses
+abbrev pub keys_of : Unit → List Key
+keys_of m = keys_with [] (clauses_of m.sentences)
+
+-- the conditions of a unit: each predicate's by its assertions, wherever they stand
+abbrev pub unit_conditions : Unit → List Cond
+unit_conditions m = conditions_from m.file (assertions_of m.sentences) 0 0 (keys_of m)
+
+-- a predicate of the unit with its clauses in order and the numbers of its conditions
+abbrev pub pred_with : Unit → Key → Pred
+pred_with m key = record {
+  «module» = m.name;
   name = key.name;
   arity = key.arity;
-  clauses = map (clause_of keys file) (filter (is_clause_of key) clauses);
-  conds = [];
+  clauses = map (clause_of (keys_of m) m.file) (filter (is_clause_of key) (clauses_of m.sentences));
+  conds = numbers_of (pred_number (keys_of m) key) (unit_conditions m);
   call_checks = [];
 }
 
--- the program of a file with these names, exports and clauses: predicates are numbered by their first clauses, and each export has the entry without a precondition
-abbrev pub program_of : List Word → ℕ → ℕ → List Key → List ReadClause → Program
-program_of names file module_name exports clauses =
-    let keys = keys_with [] clauses in
-    let exported = map (pred_number keys) exports in
+-- the program of a unit; each export has the entry without a precondition
+abbrev pub program_of : Unit → Program
+program_of m =
+    let exported = map (pred_number (keys_of m)) m.exports in
     record {
-      names = names;
-      files = file ∷ [];
-      preds = map (pred_with keys file module_name clauses) keys;
-      conds = [];
+      names = m.names;
+      files = m.file ∷ [];
+      preds = map (pred_with m) (keys_of m);
+      conds = unit_conditions m;
       claims = [];
       grammar = basic_grammar;
       exports = exported;
       entries = map (λ p. record { pred = p; pre = [] }) exported;
     }
 
--- that program, where each goal and each export has clauses
-abbrev pub linked : List Word → ℕ → ℕ → List Key → List ReadClause → Option Program
-linked names file module_name exports clauses =
-    if all_defined (keys_with [] clauses) exports clauses then Some (program_of names file module_name exports clauses) else None
+-- predicates without clauses
+
+-- whether a goal or an assertion of the sentence names a predicate that has no clauses
+abbrev pub names_undefined : List Key → ReadSentence → Bool
+names_undefined keys (read.Clause c) = list_any (λ t. not (is_defined keys (key_of t))) c.written.goals
+names_undefined keys (read.Assertion a) = not (is_defined keys a.key)
+
+-- the line of a sentence
+abbrev pub sentence_line : ReadSentence → ℕ
+sentence_line (read.Clause c) = c.line
+sentence_line (read.Assertion a) = a.line
+
+-- the lines that name predicates without clauses: that of the module directive for each such export, and those of sentences
+abbrev pub undefined_lines : Unit → List ℕ
+undefined_lines m =
+    map (λ e. m.line) (filter (λ e. not (is_defined (keys_of m) e)) m.exports)
+    ++ map sentence_line (filter (names_undefined (keys_of m)) m.sentences)
+
+-- the least of numbers
+abbrev pub least : List ℕ → Option ℕ
+least [] = None
+least (n ∷ ns) = Some (option_map_or (min n) (least ns) n)
+
+-- the unit by its predicates
+abbrev pub linked_by : Option ℕ → Unit → LinkResult
+linked_by (Some line) m = link.Undefined line
+linked_by None m = link.Program (program_of m)
+
+-- its program, or the least line that names a predicate without clauses
+abbrev pub linked : Unit → LinkResult
+linked m = linked_by (least (undefined_lines m)) m

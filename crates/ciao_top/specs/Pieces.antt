@@ -13,6 +13,8 @@ pub data Piece : Type 0 where
   -- its digits
   number : Word → Piece
   neck : Piece
+  colon : Piece
+  implies : Piece
   slash : Piece
   paren : Piece
   close_paren : Piece
@@ -30,6 +32,8 @@ spelling (name word) = word
 spelling (variable word) = word
 spelling (number digits) = digits
 spelling neck = codes ":-"
+spelling colon = codes ":"
+spelling implies = codes "=>"
 spelling slash = codes "/"
 spelling paren = codes "("
 spelling close_paren = codes ")"
@@ -75,6 +79,8 @@ stands (name word) behind = is_base_name word && not (starts is_name_byte behind
 stands (variable word) behind = is_variable_word word && not (starts is_name_byte behind)
 stands (number digits) behind = is_some (number_of (2 ^ 63 - 1) digits) && (not (starts is_name_byte behind) && not (starts_fraction behind))
 stands neck behind = not (starts is_symbol behind)
+stands colon behind = not (starts is_symbol behind)
+stands implies behind = not (starts is_symbol behind)
 stands slash behind = not (starts is_symbol behind)
 stands paren behind = true
 stands close_paren behind = true

@@ -10,12 +10,13 @@ use Rattle.ciao_top.specs.Pieces.{Piece, IsCut}
 use Rattle.ciao_top.specs.declared.plain.tokens.Kind.{Kind}
 use Rattle.ciao_top.specs.declared.plain.tokens.Kind.TheVariants.{Stop}
 use Rattle.ciao_top.specs.declared.plain.tokens.Sentence.{Sentence}
-use Rattle.ciao_top.specs.declared.plain.clauses.Key.{Key}
-use Rattle.ciao_top.specs.declared.plain.clauses.ReadClause.{ReadClause}
+use Rattle.ciao_top.specs.declared.plain.units.Unit.{Unit}
+use Rattle.ciao_top.specs.declared.plain.units.ReadSentence.{ReadSentence}
+use Rattle.ciao_top.specs.declared.plain.units.ReadSentence.TheVariants.{Clause, Assertion}
 use Rattle.ciao_top.specs.Tokens.{names_with, tokens_of, sentences_of}
 use Rattle.ciao_top.specs.PlainTerms.{Begins, is_plain, is_callable, depth_limit}
 use Rattle.ciao_top.specs.PlainSentences.{IsDirective, IsClause}
-use Rattle.ciao_top.specs.Linked.{linked}
+use Rattle.ciao_top.specs.PlainAssertions.{IsAssertion}
 
 -- the greatest number of bytes of a file
 abbrev pub size_limit : ℕ
@@ -29,8 +30,22 @@ file_text base = base ++ codes ".pl"
 abbrev pub names_of : Word → List Piece → List Word
 names_of base pieces = names_with (with_text fixed_names (file_text base)) pieces
 
--- these bytes are a plain file of this base name, whose program this is
-pub record IsPlainFile (base : Word) (bytes : Word) (program : Program) : Type 0 where
+-- a sentence behind the module directive is read as this clause or this assertion
+abbrev pub IsRead : Sentence → ReadSentence → Type 0
+IsRead sentence (Clause clause) = IsClause sentence clause
+IsRead sentence (Assertion assertion) = IsAssertion sentence assertion
+
+-- with these names, the file's number among them and this base name, a module directive and the sentences behind it are read as this unit
+pub record AreRead (names : List Word) (file : ℕ) (base : Word) (first : Sentence) (rest : List Sentence) (m : Unit) : Type 0 where
+  pub directive : IsDirective names base first.kinds m.exports
+  pub each : AllZip IsRead rest m.sentences
+  pub names_are : m.names ≡ names
+  pub file_is : m.file ≡ file
+  pub name_is : m.name ≡ directive.module_name
+  pub line_is : m.line ≡ first.line
+
+-- these bytes are a plain file of this base name, and are read as this unit
+pub record IsPlainFile (base : Word) (bytes : Word) (m : Unit) : Type 0 where
   pub small : length bytes ≤ size_limit
   pub ascii : list_all (λ c. nat_lt c 128) bytes ≡ true
   pub pieces : List Piece
@@ -38,11 +53,7 @@ pub record IsPlainFile (base : Word) (bytes : Word) (program : Program) : Type 0
   pub first : Sentence
   pub rest : List Sentence
   pub sentences : sentences_of (tokens_of (names_of base pieces) pieces) ≡ Some (first ∷ rest)
-  pub exports : List Key
-  pub directive : IsDirective (names_of base pieces) base first.kinds exports
-  pub clauses : List ReadClause
-  pub each : AllZip IsClause rest clauses
-  pub links : linked (names_of base pieces) (place_of (file_text base) (names_of base pieces)) directive.module_name exports clauses ≡ Some program
+  pub read : AreRead (names_of base pieces) (place_of (file_text base) (names_of base pieces)) base first rest m
 
 -- the tokens are those of a term, with a stop behind them or without
 abbrev pub Spells : Term → List Kind → Type 0

@@ -1,16 +1,29 @@
 -- The numbers of names that plain files cite, and their texts.
-use Rattle.std.specs.Prelude.{◌≡◌, ℕ, suc, Bool, List, [], ◌∷◌, if◌then◌else◌, slice_get, Some, codes}
+use Rattle.std.specs.Prelude.{◌≡◌, ℕ, suc, Bool, List, [], ◌∷◌, if◌then◌else◌, slice_get, Option, Some, None, codes}
 use Rattle.term_core.specs.Names.{fixed_names}
+use Rattle.prog_data.specs.declared.conditions.Prop.{Prop}
+use Rattle.prog_data.specs.declared.conditions.Prop.TheVariants.{Belongs, IsVar, IsNonvar, IsGround}
 use Rattle.ciao_top.specs.Words.{Word}
 use Rattle.ciao_top.specs.PlainTerms.{is_operator}
 use Rattle.ciao_top.specs.PlainSentences.{is_built_in}
+use Rattle.ciao_top.specs.PlainAssertions.{pred_name, asked_by}
 
 -- the texts, numbered from n on, whose numbers pass a test
 abbrev pub texts_where : (ℕ → Bool) → ℕ → List Word → List Word
 texts_where test n [] = []
 texts_where test n (t ∷ ts) = if test n then t ∷ texts_where test (suc n) ts else texts_where test (suc n) ts
 
--- the operators and the built-ins of plain files are those with these texts
+-- a text with what it asks, before others, where it asks something
+abbrev pub with_asked : Word → Option Prop → List (Word × Prop) → List (Word × Prop)
+with_asked text None others = others
+with_asked text (Some property) others = (text, property) ∷ others
+
+-- the texts, numbered from n on, that ask something of an argument, with what they ask
+abbrev pub asked_where : ℕ → ℕ → List Word → List (Word × Prop)
+asked_where argument n [] = []
+asked_where argument n (t ∷ ts) = with_asked t (asked_by n argument) (asked_where argument (suc n) ts)
+
+-- the operators, the built-ins and the properties of plain files are those with these texts; the types stand in the order of the basic grammar
 pub record PlainNamesArePlaces : Type 0 where
   pub comma : slice_get fixed_names 3 ≡ Some (codes ",")
   pub neck : slice_get fixed_names 15 ≡ Some (codes ":-")
@@ -27,3 +40,8 @@ pub record PlainNamesArePlaces : Type 0 where
       codes "term" ∷ codes "int" ∷ codes "nnegint" ∷ codes "num" ∷ codes "atm" ∷ codes "gnd" ∷ codes "constant" ∷ codes "struct" ∷
       codes "callable" ∷ codes "list" ∷ codes "var" ∷ codes "nonvar" ∷ codes "ground" ∷ []
   pub with_two : texts_where (λ n. is_built_in n 2) 0 fixed_names ≡ codes "list" ∷ []
+  pub pred : slice_get fixed_names pred_name ≡ Some (codes "pred")
+  pub properties : (argument : ℕ) → asked_where argument 0 fixed_names ≡
+      (codes "term", Belongs argument 0) ∷ (codes "int", Belongs argument 1) ∷ (codes "nnegint", Belongs argument 2) ∷ (codes "num", Belongs argument 3) ∷ (codes "atm", Belongs argument 4) ∷
+      (codes "gnd", Belongs argument 5) ∷ (codes "constant", Belongs argument 6) ∷ (codes "struct", Belongs argument 7) ∷ (codes "callable", Belongs argument 8) ∷ (codes "list", Belongs argument 9) ∷
+      (codes "var", IsVar argument) ∷ (codes "nonvar", IsNonvar argument) ∷ (codes "ground", IsGround argument) ∷ []

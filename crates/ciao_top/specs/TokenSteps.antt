@@ -4,7 +4,7 @@ use Rattle.std.specs.Borrow.{Bor}
 use Rattle.term_core.specs.Names.{place_of}
 use Rattle.ciao_top.specs.Words.{Word}
 use Rattle.ciao_top.specs.declared.plain.tokens.Kind.{Kind}
-use Rattle.ciao_top.specs.declared.plain.tokens.Kind.TheVariants.{Name, Variable, Number, Neck, Slash, CallParen, Paren, CloseParen, Bracket, CloseBracket, Bar, Comma, Stop}
+use Rattle.ciao_top.specs.declared.plain.tokens.Kind.TheVariants.{Name, Variable, Number, Neck, Colon, Implies, Slash, CallParen, Paren, CloseParen, Bracket, CloseBracket, Bar, Comma, Stop}
 use Rattle.ciao_top.specs.declared.plain.tokens.Token.{Token}
 use Rattle.ciao_top.specs.declared.plain.tokens.Scan.{Scan}
 use Rattle.ciao_top.specs.Pieces.{Piece}
@@ -30,6 +30,8 @@ after names s (piece.name word) = record { tokens = s.tokens ++ record { kind = 
 after names s (piece.variable word) = record { tokens = s.tokens ++ record { kind = Variable (variable_number s.seen word); line = s.line } ∷ []; line = s.line; seen = with_variable s.seen word; called = false }
 after names s (piece.number digits) = put s (Number (pos (value_of digits)))
 after names s piece.neck = put s Neck
+after names s piece.colon = put s Colon
+after names s piece.implies = put s Implies
 after names s piece.slash = put s Slash
 after names s piece.paren = put s (if s.called then CallParen else Paren)
 after names s piece.close_paren = put s CloseParen

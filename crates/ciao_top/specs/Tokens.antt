@@ -3,7 +3,7 @@ use Rattle.std.specs.Prelude.{◌≡◌, ℕ, ◌+◌, ◌-◌, ◌^◌, Bool, t
 use Rattle.term_core.specs.Names.{place_of, with_text}
 use Rattle.ciao_top.specs.Words.{Word, number_of}
 use Rattle.ciao_top.specs.declared.plain.tokens.Kind.{Kind}
-use Rattle.ciao_top.specs.declared.plain.tokens.Kind.TheVariants.{Name, Variable, Number, Neck, Slash, CallParen, Paren, CloseParen, Bracket, CloseBracket, Bar, Comma, Stop}
+use Rattle.ciao_top.specs.declared.plain.tokens.Kind.TheVariants.{Name, Variable, Number, Neck, Colon, Implies, Slash, CallParen, Paren, CloseParen, Bracket, CloseBracket, Bar, Comma, Stop}
 use Rattle.ciao_top.specs.declared.plain.tokens.Token.{Token}
 use Rattle.ciao_top.specs.declared.plain.tokens.Sentence.{Sentence}
 use Rattle.ciao_top.specs.Pieces.{Piece, IsCut}
@@ -41,6 +41,8 @@ module _ (names : List Word) where
   tokens_from line seen called (piece.variable word ∷ ps) = record { kind = Variable (variable_number seen word); line = line } ∷ tokens_from line (with_variable seen word) false ps
   tokens_from line seen called (piece.number digits ∷ ps) = record { kind = Number (pos (value_of digits)); line = line } ∷ tokens_from line seen false ps
   tokens_from line seen called (piece.neck ∷ ps) = record { kind = Neck; line = line } ∷ tokens_from line seen false ps
+  tokens_from line seen called (piece.colon ∷ ps) = record { kind = Colon; line = line } ∷ tokens_from line seen false ps
+  tokens_from line seen called (piece.implies ∷ ps) = record { kind = Implies; line = line } ∷ tokens_from line seen false ps
   tokens_from line seen called (piece.slash ∷ ps) = record { kind = Slash; line = line } ∷ tokens_from line seen false ps
   tokens_from line seen called (piece.paren ∷ ps) = record { kind = if called then CallParen else Paren; line = line } ∷ tokens_from line seen false ps
   tokens_from line seen called (piece.close_paren ∷ ps) = record { kind = CloseParen; line = line } ∷ tokens_from line seen false ps

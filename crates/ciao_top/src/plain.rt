@@ -3,26 +3,28 @@ ghost use Rattle.std.specs.Prelude.{◌≡◌, ◌∷◌, true, IfOk, IfSome, If
 ghost use Rattle.std.specs.List.{list_all, AllZip};
 ghost use Rattle.term_core.specs.declared.terms.Term.{Term as TermValue};
 ghost use Rattle.term_core.specs.Names.{IsPrefix};
-ghost use Rattle.prog_data.specs.declared.programs.Program.{Program as ProgramValue};
-ghost use Rattle.ciao_top.specs.declared.plain.clauses.ReadClause.{ReadClause as ReadClauseValue};
-ghost use Rattle.ciao_top.specs.PlainSentences.{IsClause};
-ghost use Rattle.ciao_top.specs.PlainFiles.{file_text, IsPlainFile, IsQuery};
-ghost use Rattle.ciao_top.specs.PlainSteps.{ClausesGive, SentencesGive, TokensGive, TextGives};
-ghost use Rattle.sld_engine.specs.Built.{is_built};
+ghost use Rattle.ciao_top.specs.declared.plain.units.Unit.{Unit as UnitValue};
+ghost use Rattle.ciao_top.specs.declared.plain.units.ReadSentence.{ReadSentence as ReadSentenceValue};
+ghost use Rattle.ciao_top.specs.PlainFiles.{file_text, IsRead, IsPlainFile, IsQuery};
+ghost use Rattle.ciao_top.specs.PlainSteps.{SentencesGive, TokensGive, TextGives};
 
+pub(crate) mod assertions;
 pub(crate) mod clauses;
+pub(crate) mod conditions;
+pub(crate) mod keys;
 pub(crate) mod linking;
 pub(crate) mod pieces;
 pub(crate) mod terms;
 pub(crate) mod tokens;
+pub(crate) mod units;
 
-use clauses::{Directive, ReadClause, read_clause, read_directive, read_query};
-use linking::link;
-use prog_data::Program;
+use assertions::read_assertion;
+use clauses::{Directive, read_clause, read_directive, read_query};
 use sqlite_items::Items;
 use std::alloc::Global;
 use term_core::{Names, NoMemory, Term};
 use tokens::{Kind, Sentence, Token, sentences, tokens};
+use units::{ReadSentence, Unit};
 
 // The greatest number of bytes of a file.
 const SIZE_LIMIT: usize = 1_048_576;
@@ -43,129 +45,140 @@ fn file_text(alloc: Global, base: &str) -> Result<String, NoMemory>
     Ok(text)
 }
 
-// The clauses that the sentences are, or `None` where one is no clause.
-fn read_clauses(
-    alloc: Global,
-    sentences: &[Sentence],
-) -> Result<Option<Items<ReadClause>>, NoMemory>
-    ensures some { IfOk result (λ answer. IfSome answer (λ clauses. AllZip IsClause sentences.now clauses)) }
-    ensures none { IfOk result (λ answer. IfNone answer ((clauses : List ReadClauseValue) → AllZip IsClause sentences.now clauses → ⊥)) }
+// What a sentence behind the module directive is read as, or `None` where it is neither a clause nor an assertion.
+fn read_sentence(alloc: Global, sentence: &Sentence) -> Result<Option<ReadSentence>, NoMemory>
+    ensures some { IfOk result (λ answer. IfSome answer (λ read. IsRead sentence.now read)) }
+    ensures none { IfOk result (λ answer. IfNone answer ((read : ReadSentenceValue) → IsRead sentence.now read → ⊥)) }
 {
-    let mut clauses = Items::new(alloc);
-    for sentence in sentences {
-        match read_clause(alloc, sentence)? {
-            None => return Ok(None),
-            Some(clause) => clauses.push(clause)?,
-        }
+    match read_assertion(alloc, sentence)? {
+        Some(assertion) => Ok(Some(ReadSentence::Assertion(assertion))),
+        None => match read_clause(alloc, sentence)? {
+            Some(clause) => Ok(Some(ReadSentence::Clause(clause))),
+            None => Ok(None),
+        },
     }
-    Ok(Some(clauses))
 }
 
-// The program of clauses behind their directive.
-fn link_clauses(
+// What sentences behind the module directive are read as, or `None` where one is neither a clause nor an assertion.
+fn read_sentences(
+    alloc: Global,
+    sentences: &[Sentence],
+) -> Result<Option<Items<ReadSentence>>, NoMemory>
+    ensures some { IfOk result (λ answer. IfSome answer (λ read. AllZip IsRead sentences.now read)) }
+    ensures none { IfOk result (λ answer. IfNone answer ((read : List ReadSentenceValue) → AllZip IsRead sentences.now read → ⊥)) }
+{
+    let mut all = Items::new(alloc);
+    for sentence in sentences {
+        match read_sentence(alloc, sentence)? {
+            None => return Ok(None),
+            Some(read) => all.push(read)?,
+        }
+    }
+    Ok(Some(all))
+}
+
+// The unit of its directive and the sentences behind it.
+fn unit_of(
     alloc: Global,
     names: Names,
     file: u64,
-    directive: &Directive,
-    sentences: &[Sentence],
-) -> Result<Option<Program>, NoMemory>
-    ensures some { IfOk result (λ answer. IfSome answer (λ program. ClausesGive names file directive.now.module_name directive.now.exports sentences.now program)) }
-    ensures none { IfOk result (λ answer. IfNone answer ((program : ProgramValue) → ClausesGive names file directive.now.module_name directive.now.exports sentences.now program → ⊥)) }
+    directive: Directive,
+    line: u64,
+    rest: &[Sentence],
+) -> Result<Option<Unit>, NoMemory>
+    ensures some { IfOk result (λ answer. IfSome answer (λ m. AllZip IsRead rest.now m.sentences)) }
+    ensures is { IfOk result (λ answer. IfSome answer (λ m. m ≡ record { names = names; file = file; name = directive.module_name; line = line; exports = directive.exports; sentences = m.sentences })) }
+    ensures none { IfOk result (λ answer. IfNone answer ((read : List ReadSentenceValue) → AllZip IsRead rest.now read → ⊥)) }
 {
-    match read_clauses(alloc, sentences)? {
+    match read_sentences(alloc, rest)? {
         None => Ok(None),
-        Some(clauses) => link(
-            alloc,
+        Some(sentences) => Ok(Some(Unit {
             names,
             file,
-            directive.module_name,
-            directive.exports.as_slice(),
-            clauses.as_slice(),
-        ),
+            name: directive.module_name,
+            line,
+            exports: directive.exports,
+            sentences,
+        })),
     }
 }
 
-// The program of the directive and of the clauses behind it.
-fn link_module(
+// The unit of the first sentence and those behind it.
+fn read_unit(
     alloc: Global,
     names: Names,
     file: u64,
     base: &str,
     first: &Sentence,
     rest: &[Sentence],
-) -> Result<Option<Program>, NoMemory>
-    ensures some { IfOk result (λ answer. IfSome answer (λ program. SentencesGive names file base.now (first.now ∷ rest.now) program)) }
-    ensures none { IfOk result (λ answer. IfNone answer ((program : ProgramValue) → SentencesGive names file base.now (first.now ∷ rest.now) program → ⊥)) }
+) -> Result<Option<Unit>, NoMemory>
+    ensures some { IfOk result (λ answer. IfSome answer (λ m. SentencesGive names file base.now (first.now ∷ rest.now) m)) }
+    ensures none { IfOk result (λ answer. IfNone answer ((m : UnitValue) → SentencesGive names file base.now (first.now ∷ rest.now) m → ⊥)) }
 {
     match read_directive(alloc, &names, base, first.kinds.as_slice())? {
         None => Ok(None),
-        Some(directive) => link_clauses(alloc, names, file, &directive, rest),
+        Some(directive) => unit_of(alloc, names, file, directive, first.line, rest),
     }
 }
 
-// The program of a file's sentences.
-fn link_sentences(
+// The unit of a file's sentences.
+fn unit_of_sentences(
     alloc: Global,
     names: Names,
     file: u64,
     base: &str,
     sentences: &[Sentence],
-) -> Result<Option<Program>, NoMemory>
-    ensures some { IfOk result (λ answer. IfSome answer (λ program. SentencesGive names file base.now sentences.now program)) }
-    ensures none { IfOk result (λ answer. IfNone answer ((program : ProgramValue) → SentencesGive names file base.now sentences.now program → ⊥)) }
+) -> Result<Option<Unit>, NoMemory>
+    ensures some { IfOk result (λ answer. IfSome answer (λ m. SentencesGive names file base.now sentences.now m)) }
+    ensures none { IfOk result (λ answer. IfNone answer ((m : UnitValue) → SentencesGive names file base.now sentences.now m → ⊥)) }
 {
     match sentences {
         [] => Ok(None),
-        [first, rest @ ..] => link_module(alloc, names, file, base, first, rest),
+        [first, rest @ ..] => read_unit(alloc, names, file, base, first, rest),
     }
 }
 
-// The program of a file's tokens.
-fn link_tokens(
+// The unit of a file's tokens.
+fn unit_of_tokens(
     alloc: Global,
     names: Names,
     file: u64,
     base: &str,
     tokens: &[Token],
-) -> Result<Option<Program>, NoMemory>
-    ensures some { IfOk result (λ answer. IfSome answer (λ program. TokensGive names file base.now tokens.now program)) }
-    ensures none { IfOk result (λ answer. IfNone answer ((program : ProgramValue) → TokensGive names file base.now tokens.now program → ⊥)) }
+) -> Result<Option<Unit>, NoMemory>
+    ensures some { IfOk result (λ answer. IfSome answer (λ m. TokensGive names file base.now tokens.now m)) }
+    ensures none { IfOk result (λ answer. IfNone answer ((m : UnitValue) → TokensGive names file base.now tokens.now m → ⊥)) }
 {
     match sentences(alloc, tokens)? {
         None => Ok(None),
-        Some(sentences) => link_sentences(alloc, names, file, base, sentences.as_slice()),
+        Some(sentences) => unit_of_sentences(alloc, names, file, base, sentences.as_slice()),
     }
 }
 
-// The program of a file's text.
-fn read_text(alloc: Global, base: &str, text: &[u8]) -> Result<Option<Program>, NoMemory>
-    ensures some { IfOk result (λ answer. IfSome answer (λ program. TextGives base.now text.now program)) }
-    ensures none { IfOk result (λ answer. IfNone answer ((program : ProgramValue) → TextGives base.now text.now program → ⊥)) }
+// The unit of a file's text.
+fn unit_of_text(alloc: Global, base: &str, text: &[u8]) -> Result<Option<Unit>, NoMemory>
+    ensures some { IfOk result (λ answer. IfSome answer (λ m. TextGives base.now text.now m)) }
+    ensures none { IfOk result (λ answer. IfNone answer ((m : UnitValue) → TextGives base.now text.now m → ⊥)) }
 {
     let file_text = file_text(alloc, base)?;
     let mut names = Names::new(alloc)?;
     let file = names.intern(file_text.as_str())?;
     match tokens(alloc, &mut names, text)? {
         None => Ok(None),
-        Some(tokens) => link_tokens(alloc, names, file, base, tokens.as_slice()),
+        Some(tokens) => unit_of_tokens(alloc, names, file, base, tokens.as_slice()),
     }
 }
 
-/// The program of a plain file with this base name, or `None` where the bytes are no plain file.
+/// The unit that a plain file with this base name is read as, or `None` where the bytes are no plain file.
 ///
 /// # Errors
 /// Want of memory.
-pub(crate) fn read_file(
-    alloc: Global,
-    base: &str,
-    bytes: &[u8],
-) -> Result<Option<Program>, NoMemory>
-    ensures some { IfOk result (λ answer. IfSome answer (λ program. IsPlainFile base.now bytes.now program)) }
-    ensures none { IfOk result (λ answer. IfNone answer ((program : ProgramValue) → IsPlainFile base.now bytes.now program → ⊥)) }
-    ensures built { IfOk result (λ answer. IfSome answer (λ program. is_built program ≡ true)) }
+pub(crate) fn read_file(alloc: Global, base: &str, bytes: &[u8]) -> Result<Option<Unit>, NoMemory>
+    ensures some { IfOk result (λ answer. IfSome answer (λ m. IsPlainFile base.now bytes.now m)) }
+    ensures none { IfOk result (λ answer. IfNone answer ((m : UnitValue) → IsPlainFile base.now bytes.now m → ⊥)) }
 {
     if bytes.len() <= SIZE_LIMIT && is_ascii(bytes) {
-        read_text(alloc, base, bytes)
+        unit_of_text(alloc, base, bytes)
     } else {
         Ok(None)
     }

@@ -5,7 +5,7 @@ ghost use Rattle.prog_data.specs.Goals.{called_by};
 ghost use Rattle.sld_engine.specs.Built.{is_built};
 ghost use Rattle.sld_engine.specs.Runs.{phase_of, program_of, bound_of};
 ghost use Rattle.ciao_top.specs.RunText.{event_text, ending_status};
-ghost use Rattle.ciao_top.specs.InnerAnswers.{Comes, HasWritten, event_status, RunTells, GoesOn, CallAnswers};
+ghost use Rattle.ciao_top.specs.InnerAnswers.{DeviceGoesOn, Comes, HasWritten, event_status, RunTells, GoesOn, CallAnswers};
 
 use crate::texts::event_text;
 use byte_io::{Sink, SinkFault, write_all};
@@ -46,7 +46,7 @@ fn write_event<S: Sink>(
     ensures ok { OnOk result (S.written out.new ≡ grown (S.written out.old) (event_text program.now event.now)) }
     ensures err { OnErr result (GrewByPrefix (S.written out.old) (S.written out.new) (event_text program.now event.now)) }
     ensures status { IfErr result (λ status. ((status ≡ 8) × Rose (S.faults out.old) (S.faults out.new)) ⊎ (status ≡ 9)) }
-    ensures later { S.faults out.old ≤ S.faults out.new }
+    ensures sink { DeviceGoesOn (S.steady out.old) (S.steady out.new) (S.faults out.old) (S.faults out.new) }
 {
     match event_text(alloc, program, event) {
         Err(_) => Err(9),
@@ -70,7 +70,7 @@ fn write_next<S: Sink>(
         (HasWritten (RunTells program.now (bound_of run.old) (phase_of run.old)) (RunTells program.now (bound_of run.old) (phase_of run.new)) (S.written out.old) (S.written out.new))
         (λ status. Comes (RunTells program.now (bound_of run.old) (phase_of run.old)) (Rose (S.faults out.old) (S.faults out.new)) (S.written out.old) (S.written out.new) status) }
     ensures goes { IfNone result (GoesOn program.now (bound_of run.old) (phase_of run.old) (phase_of run.new)) }
-    ensures later { S.faults out.old ≤ S.faults out.new }
+    ensures sink { DeviceGoesOn (S.steady out.old) (S.steady out.new) (S.faults out.old) (S.faults out.new) }
     ensures program { program_of run.new ≡ program.now }
     ensures bound { bound_of run.new ≡ bound_of run.old }
 {
@@ -86,7 +86,8 @@ fn write_next<S: Sink>(
 // Writes a run to its end.
 fn write_run<S: Sink>(alloc: Global, program: &Program, run: &mut Run<'_>, out: &mut S) -> u8
     requires { program_of run.old ≡ program.now }
-    ensures { Comes (RunTells program.now (bound_of run.old) (phase_of run.old)) (Rose (S.faults out.old) (S.faults out.new)) (S.written out.old) (S.written out.new) result }
+    ensures comes { Comes (RunTells program.now (bound_of run.old) (phase_of run.old)) (Rose (S.faults out.old) (S.faults out.new)) (S.written out.old) (S.written out.new) result }
+    ensures sink { DeviceGoesOn (S.steady out.old) (S.steady out.new) (S.faults out.old) (S.faults out.new) }
 {
     'events: loop {
         match write_next(alloc, program, run, out) {
@@ -107,7 +108,8 @@ pub(crate) fn answer_run<S: Sink>(
 ) -> u8
     requires built { is_built program.now ≡ true }
     requires calls { called_by program.now query.now ≡ Some predicate }
-    ensures { Comes (CallAnswers program.now query.now bound) (Rose (S.faults out.old) (S.faults out.new)) (S.written out.old) (S.written out.new) result }
+    ensures comes { Comes (CallAnswers program.now query.now bound) (Rose (S.faults out.old) (S.faults out.new)) (S.written out.old) (S.written out.new) result }
+    ensures sink { DeviceGoesOn (S.steady out.old) (S.steady out.new) (S.faults out.old) (S.faults out.new) }
 {
     match Run::new(alloc, program, predicate, query, bound) {
         Err(_) => 9,

@@ -29,11 +29,19 @@ fn fault_text(
     Ok(text)
 }
 
-/// The line of a fault of a whole file.
-pub(crate) fn file_fault_text(alloc: Global, file: &str, kind: &str) -> Result<Vec<u8>, AllocError>
-    ensures { IfOk result (λ text. text.items ≡ file_fault file.now kind.now) }
+/// The line of a fault of a file at a line, which is 0 for a whole file.
+pub(crate) fn file_fault_text(
+    alloc: Global,
+    file: &str,
+    line: u64,
+    kind: &str,
+) -> Result<Vec<u8>, AllocError>
+    ensures { IfOk result (λ text. text.items ≡ file_fault file.now line kind.now) }
 {
-    let mut after = ":0 ".as_bytes().to_vec(alloc)?;
+    let mut digits = Buffer::new();
+    let mut after = ":".as_bytes().to_vec(alloc)?;
+    after.extend_from_slice(digits.format(line).as_bytes())?;
+    after.push(32)?;
     after.extend_from_slice(kind.as_bytes())?;
     fault_text(alloc, "".as_bytes(), behind_slash(file.as_bytes()), &after)
 }

@@ -1,13 +1,16 @@
 // The top call.
 ghost use Rattle.std.specs.Prelude.{◌≡◌, ℕ, ◌<◌, ◌≤◌, ◌++◌, [], true, map, take, length, IfOk, codes, string_bytes};
-ghost use Rattle.byte_io.specs.Outside.{Rose, grown};
+ghost use Rattle.byte_io.specs.Outside.{Rose, StaysSteady, grown};
 ghost use Rattle.sld_engine.specs.Built.{is_built};
 ghost use Rattle.ciao_top.specs.Words.{AcceptedWords, is_main_file};
 ghost use Rattle.ciao_top.specs.Lines.{fault_line, file_fault, read_fault};
-ghost use Rattle.ciao_top.specs.Answers.{Answered, FileAnswers, QueryAnswers, OneAnswer, SomeAnswer, Completeness};
+ghost use Rattle.ciao_top.specs.Answers.{Answered, Complete, FileAnswers, UnitAnswers, QueryAnswers, OneAnswer, SomeAnswer, Completeness};
+ghost use Rattle.ciao_top.specs.Linked.{linked};
 ghost use Rattle.ciao_top.specs.PlainNames.{PlainNamesArePlaces};
-ghost use Rattle.ciao_top.specs.InnerAnswers.{run_words, Comes, Only, RunAnswered, CallAnswers};
+ghost use Rattle.ciao_top.specs.InnerAnswers.{run_words, DeviceGoesOn, Comes, Only, RunAnswered, CallAnswers};
 
+use crate::plain::linking::link;
+use crate::plain::units::{LinkResult, Unit};
 use crate::plain::{plain_query, read_file};
 use crate::runs::answer_run;
 use crate::texts::{file_fault_text, read_fault_text};
@@ -24,7 +27,8 @@ const MOST_READ: u64 = 1_048_577;
 
 // Writes a text, and gives the status that goes with it, or that of a sink that refused.
 fn say<S: Sink>(out: &mut S, text: &[u8], status: u8) -> u8
-    ensures { Comes (Only text.now status) (Rose (S.faults out.old) (S.faults out.new)) (S.written out.old) (S.written out.new) result }
+    ensures comes { Comes (Only text.now status) (Rose (S.faults out.old) (S.faults out.new)) (S.written out.old) (S.written out.new) result }
+    ensures sink { DeviceGoesOn (S.steady out.old) (S.steady out.new) (S.faults out.old) (S.faults out.new) }
 {
     match write_all(out, text) {
         Ok(()) => status,
@@ -33,11 +37,12 @@ fn say<S: Sink>(out: &mut S, text: &[u8], status: u8) -> u8
     }
 }
 
-// Tells a fault of a whole file.
-fn say_file_fault<S: Sink>(alloc: Global, file: &str, kind: &str, out: &mut S) -> u8
-    ensures { Comes (Only (file_fault file.now kind.now) 3) (Rose (S.faults out.old) (S.faults out.new)) (S.written out.old) (S.written out.new) result }
+// Tells a fault of a file at a line.
+fn say_file_fault<S: Sink>(alloc: Global, file: &str, line: u64, kind: &str, out: &mut S) -> u8
+    ensures comes { Comes (Only (file_fault file.now line kind.now) 3) (Rose (S.faults out.old) (S.faults out.new)) (S.written out.old) (S.written out.new) result }
+    ensures sink { DeviceGoesOn (S.steady out.old) (S.steady out.new) (S.faults out.old) (S.faults out.new) }
 {
-    match file_fault_text(alloc, file, kind) {
+    match file_fault_text(alloc, file, line, kind) {
         Ok(text) => say(out, &text, 3),
         Err(_) => 9,
     }
@@ -45,7 +50,8 @@ fn say_file_fault<S: Sink>(alloc: Global, file: &str, kind: &str, out: &mut S) -
 
 // Tells that a file could not be read.
 fn say_read_fault<S: Sink>(alloc: Global, file: &str, out: &mut S) -> u8
-    ensures { Comes (Only (read_fault file.now) 7) (Rose (S.faults out.old) (S.faults out.new)) (S.written out.old) (S.written out.new) result }
+    ensures comes { Comes (Only (read_fault file.now) 7) (Rose (S.faults out.old) (S.faults out.new)) (S.written out.old) (S.written out.new) result }
+    ensures sink { DeviceGoesOn (S.steady out.old) (S.steady out.new) (S.faults out.old) (S.faults out.new) }
 {
     match read_fault_text(alloc, file) {
         Ok(text) => say(out, &text, 7),
@@ -62,7 +68,8 @@ fn answer_call<S: Sink>(
     out: &mut S,
 ) -> u8
     requires { is_built program.now ≡ true }
-    ensures { Comes (CallAnswers program.now query.now bound) (Rose (S.faults out.old) (S.faults out.new)) (S.written out.old) (S.written out.new) result }
+    ensures comes { Comes (CallAnswers program.now query.now bound) (Rose (S.faults out.old) (S.faults out.new)) (S.written out.old) (S.written out.new) result }
+    ensures sink { DeviceGoesOn (S.steady out.old) (S.steady out.new) (S.faults out.old) (S.faults out.new) }
 {
     match called_by(program, query) {
         None => say(out, "fault: query not exported\n".as_bytes(), 4),
@@ -78,7 +85,8 @@ fn answer_query<S: Sink>(
     out: &mut S,
 ) -> u8
     requires { is_built program.old ≡ true }
-    ensures { Comes (QueryAnswers program.old (run_words command.now)) (Rose (S.faults out.old) (S.faults out.new)) (S.written out.old) (S.written out.new) result }
+    ensures comes { Comes (QueryAnswers program.old (run_words command.now)) (Rose (S.faults out.old) (S.faults out.new)) (S.written out.old) (S.written out.new) result }
+    ensures sink { DeviceGoesOn (S.steady out.old) (S.steady out.new) (S.faults out.old) (S.faults out.new) }
 {
     match plain_query(alloc, &mut program.names, command.query) {
         Err(_) => 9,
@@ -87,30 +95,48 @@ fn answer_query<S: Sink>(
     }
 }
 
-// Answers the query of a file that is there.
-fn answer_file<S: Sink>(alloc: Global, command: &RunCommand<'_>, bytes: &[u8], out: &mut S) -> u8
-    requires { is_main_file command.now.file.now ≡ true }
-    ensures { Comes (FileAnswers bytes.now (run_words command.now)) (Rose (S.faults out.old) (S.faults out.new)) (S.written out.old) (S.written out.new) result }
+// Answers the query of a unit.
+fn answer_unit<S: Sink>(alloc: Global, command: &RunCommand<'_>, unit: Unit, out: &mut S) -> u8
+    ensures comes { Comes (UnitAnswers (linked unit) (run_words command.now)) (Rose (S.faults out.old) (S.faults out.new)) (S.written out.old) (S.written out.new) result }
+    ensures sink { DeviceGoesOn (S.steady out.old) (S.steady out.new) (S.faults out.old) (S.faults out.new) }
 {
-    match read_file(alloc, base_of(command.file), bytes) {
+    match link(alloc, unit) {
         Err(_) => 9,
-        Ok(None) => say_file_fault(alloc, command.file, "NotBuilt", out),
-        Ok(Some(program)) => {
+        Ok(LinkResult::Undefined(line)) => {
+            say_file_fault(alloc, command.file, line, "Undefined", out)
+        }
+        Ok(LinkResult::Program(program)) => {
             let mut program = program;
             answer_query(alloc, &mut program, command, out)
         }
     }
 }
 
+// Answers the query of a file that is there.
+fn answer_file<S: Sink>(alloc: Global, command: &RunCommand<'_>, bytes: &[u8], out: &mut S) -> u8
+    requires { is_main_file command.now.file.now ≡ true }
+    ensures comes { Comes (FileAnswers bytes.now (run_words command.now)) (Rose (S.faults out.old) (S.faults out.new)) (S.written out.old) (S.written out.new) result }
+    ensures sink { DeviceGoesOn (S.steady out.old) (S.steady out.new) (S.faults out.old) (S.faults out.new) }
+{
+    match read_file(alloc, base_of(command.file), bytes) {
+        Err(_) => 9,
+        Ok(None) => say_file_fault(alloc, command.file, 0, "NotBuilt", out),
+        Ok(Some(unit)) => answer_unit(alloc, command, unit, out),
+    }
+}
+
 // Runs a query of a file.
 fn run<F: Files, S: Sink>(alloc: Global, command: &RunCommand<'_>, files: &mut F, out: &mut S) -> u8
     requires { is_main_file command.now.file.now ≡ true }
-    ensures { RunAnswered (F.held files.old) (run_words command.now)
+    ensures answered { RunAnswered (F.held files.old) (run_words command.now)
         (Rose (F.faults files.old) (F.faults files.new)) (Rose (S.faults out.old) (S.faults out.new))
         (S.written out.old) (S.written out.new) result }
+    ensures kept { F.held files.new ≡ F.held files.old }
+    ensures files { DeviceGoesOn (F.steady files.old) (F.steady files.new) (F.faults files.old) (F.faults files.new) }
+    ensures sink { DeviceGoesOn (S.steady out.old) (S.steady out.new) (S.faults out.old) (S.faults out.new) }
 {
     match files.read(command.file, MOST_READ) {
-        Ok(None) => say_file_fault(alloc, command.file, "NoFile", out),
+        Ok(None) => say_file_fault(alloc, command.file, 0, "NoFile", out),
         Ok(Some(bytes)) => answer_file(alloc, command, &bytes, out),
         Err(FilesFault::Failed) => say_read_fault(alloc, command.file, out),
         Err(FilesFault::NoMemory) => 9,
@@ -132,6 +158,13 @@ pub fn run_tool<R: Threads + Sync, F: Files, S: Sink>(
     ensures answered { Answered (F.held files.old) (map string_bytes words.now)
         (Rose (F.faults files.old) (F.faults files.new)) (Rose (S.faults out.old) (S.faults out.new))
         (S.written out.old) (S.written out.new) result }
+    ensures complete { Complete (F.held files.old) (map string_bytes words.now)
+        (Rose (F.faults files.old) (F.faults files.new)) (Rose (S.faults out.old) (S.faults out.new))
+        (S.written out.old) (S.written out.new) result }
+    ensures kept { F.held files.new ≡ F.held files.old }
+    ensures later { (F.faults files.old ≤ F.faults files.new) × (S.faults out.old ≤ S.faults out.new) }
+    ensures steady { StaysSteady (F.steady files.old) (F.steady files.new) (F.faults files.old) (F.faults files.new)
+        × StaysSteady (S.steady out.old) (S.steady out.new) (S.faults out.old) (S.faults out.new) }
 {
     match read_words(words) {
         None => say(out, "fault: words\n".as_bytes(), 2),

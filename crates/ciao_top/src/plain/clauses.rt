@@ -16,7 +16,7 @@ use std::alloc::Global;
 use term_core::{Names, NoMemory, Term, depth};
 
 // The greatest depth of a sentence.
-const DEPTH_LIMIT: u64 = 4096;
+pub(crate) const DEPTH_LIMIT: u64 = 4096;
 
 // A directive is 4 deeper than its list is long.
 const EXPORT_LIMIT: usize = 4092;
@@ -64,7 +64,8 @@ struct ParsedKeys {
     next: usize,
 }
 
-fn is_end(kinds: &[Kind], at: usize) -> bool
+/// Whether no token stands at a place.
+pub(crate) fn is_end(kinds: &[Kind], at: usize) -> bool
     ensures { result ≡ is_end (drop at kinds.now) }
 {
     kinds_from(kinds, at).is_empty()
@@ -110,7 +111,8 @@ fn is_list_name(name: u64) -> bool
     matches!(name, 0 | 1)
 }
 
-fn names_user_pred(term: &Term) -> bool
+/// Whether a term is a name or a compound that names no control and no built-in, and is no list.
+pub(crate) fn names_user_pred(term: &Term) -> bool
     ensures { result ≡ names_user_pred (out-Term term.now) }
 {
     match term {

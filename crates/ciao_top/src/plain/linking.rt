@@ -1,39 +1,20 @@
-// The program of the clauses of one file.
-ghost use Rattle.std.specs.Prelude.{◌≡◌, [], ◌∷◌, ◌++◌, map, filter, IfOk, OnOk};
-ghost use Rattle.std.specs.List.{list_all};
+// The program of one file.
+ghost use Rattle.std.specs.Prelude.{◌≡◌, ℕ, true, List, not, [], ◌∷◌, ◌++◌, map, filter, IfOk, OnOk};
+ghost use Rattle.std.specs.List.{list_any};
 ghost use Rattle.term_core.specs.declared.terms.Term.{out-Term};
 ghost use Rattle.prog_data.specs.Goals.{parts_of};
-ghost use Rattle.ciao_top.specs.Linked.{key_of, same_key, with_key, keys_with, pred_number, is_defined, call_of, conjunction_of, body_of, clause_of, all_defined, is_clause_of, pred_with, program_of, linked};
+ghost use Rattle.sld_engine.specs.Built.{is_built};
+ghost use Rattle.ciao_top.specs.Keys.{key_of};
+ghost use Rattle.ciao_top.specs.Linked.{with_key, keys_with, pred_number, is_defined, call_of, conjunction_of, body_of, clause_of, is_clause_of, clauses_of, keys_of, unit_conditions, pred_with, program_of, names_undefined, sentence_line, undefined_lines, least, linked};
 
-use super::clauses::{Key, ReadClause};
-use prog_data::{Clause, Entry, Goal, Place, Pred, Program, basic_grammar};
+use crate::plain::clauses::{Key, ReadClause};
+use crate::plain::conditions::{conditions_from, numbers_of};
+use crate::plain::keys::{key_of, same_key};
+use crate::plain::units::{LinkResult, ReadSentence, Unit};
+use prog_data::{Clause, Cond, Entry, Goal, Place, Pred, Program, basic_grammar};
 use sqlite_items::{Boxed, Items};
 use std::alloc::Global;
-use term_core::{Names, NoMemory, Term, copy};
-
-// The name and the number of arguments of a head or a goal.
-fn key_of(term: &Term) -> Key
-    ensures { result ≡ key_of term.now }
-{
-    match term {
-        Term::Var(_) => Key { name: 0, arity: 0 },
-        Term::Int(_) => Key { name: 0, arity: 0 },
-        Term::Atom(name) => Key {
-            name: *name,
-            arity: 0,
-        },
-        Term::Node(name, parts) => Key {
-            name: *name,
-            arity: parts.len() as u64,
-        },
-    }
-}
-
-fn same_key(left: Key, right: Key) -> bool
-    ensures { result ≡ same_key left right }
-{
-    left.name == right.name && left.arity == right.arity
-}
+use term_core::{NoMemory, Term, copy};
 
 // Whether a predicate has clauses.
 fn is_defined(keys: &[Key], key: Key) -> bool
@@ -65,12 +46,15 @@ fn add_key(keys: &mut Items<Key>, key: Key) -> Result<(), NoMemory>
 }
 
 // The keys of the heads, in order of first appearance.
-fn keys_of(alloc: Global, clauses: &[ReadClause]) -> Result<Items<Key>, NoMemory>
-    ensures { IfOk result (λ keys. keys ≡ keys_with [] clauses.now) }
+fn keys_of(alloc: Global, sentences: &[ReadSentence]) -> Result<Items<Key>, NoMemory>
+    ensures { IfOk result (λ keys. keys ≡ keys_with [] (clauses_of sentences.now)) }
 {
     let mut keys = Items::new(alloc);
-    for clause in clauses {
-        add_key(&mut keys, key_of(&clause.written.head))?;
+    for sentence in sentences {
+        match sentence {
+            ReadSentence::Clause(clause) => add_key(&mut keys, key_of(&clause.written.head))?,
+            ReadSentence::Assertion(_) => {}
+        }
     }
     Ok(keys)
 }
@@ -156,15 +140,20 @@ fn clauses_of(
     alloc: Global,
     keys: &[Key],
     file: u64,
-    clauses: &[ReadClause],
+    sentences: &[ReadSentence],
     key: Key,
 ) -> Result<Items<Clause>, NoMemory>
-    ensures { IfOk result (λ found. found ≡ map (clause_of keys.now file) (filter (is_clause_of key) clauses.now)) }
+    ensures { IfOk result (λ found. found ≡ map (clause_of keys.now file) (filter (is_clause_of key) (clauses_of sentences.now))) }
 {
     let mut found = Items::new(alloc);
-    for clause in clauses {
-        if same_key(key, key_of(&clause.written.head)) {
-            found.push(clause_of(alloc, keys, file, clause)?)?;
+    for sentence in sentences {
+        match sentence {
+            ReadSentence::Clause(clause) => {
+                if same_key(key, key_of(&clause.written.head)) {
+                    found.push(clause_of(alloc, keys, file, clause)?)?;
+                }
+            }
+            ReadSentence::Assertion(_) => {}
         }
     }
     Ok(found)
@@ -172,20 +161,21 @@ fn clauses_of(
 
 fn pred_with(
     alloc: Global,
+    unit: &Unit,
     keys: &[Key],
-    file: u64,
-    module_name: u64,
-    clauses: &[ReadClause],
+    conditions: &[Cond],
     key: Key,
 ) -> Result<Pred, NoMemory>
-    ensures { IfOk result (λ pred. pred ≡ pred_with keys.now file module_name clauses.now key) }
+    requires keys { keys.now ≡ keys_of unit.now }
+    requires conditions { conditions.now ≡ unit_conditions unit.now }
+    ensures { IfOk result (λ pred. pred ≡ pred_with unit.now key) }
 {
     Ok(Pred {
-        module: module_name,
+        module: unit.name,
         name: key.name,
         arity: key.arity,
-        clauses: clauses_of(alloc, keys, file, clauses, key)?,
-        conds: Items::new(alloc),
+        clauses: clauses_of(alloc, keys, unit.file, unit.sentences.as_slice(), key)?,
+        conds: numbers_of(alloc, pred_number(keys, key), conditions)?,
         call_checks: Items::new(alloc),
     })
 }
@@ -193,22 +183,23 @@ fn pred_with(
 // The predicates, in order of their keys.
 fn preds_of(
     alloc: Global,
+    unit: &Unit,
     keys: &[Key],
-    file: u64,
-    module_name: u64,
-    clauses: &[ReadClause],
+    conditions: &[Cond],
 ) -> Result<Items<Pred>, NoMemory>
-    ensures { IfOk result (λ preds. preds ≡ map (pred_with keys.now file module_name clauses.now) keys.now) }
+    requires keys { keys.now ≡ keys_of unit.now }
+    requires conditions { conditions.now ≡ unit_conditions unit.now }
+    ensures { IfOk result (λ preds. preds ≡ map (pred_with unit.now) keys.now) }
 {
     let mut preds = Items::new(alloc);
     for key in keys {
-        preds.push(pred_with(alloc, keys, file, module_name, clauses, *key)?)?;
+        preds.push(pred_with(alloc, unit, keys, conditions, *key)?)?;
     }
     Ok(preds)
 }
 
 // The numbers of the exports.
-fn numbers_of(alloc: Global, keys: &[Key], exports: &[Key]) -> Result<Items<u64>, NoMemory>
+fn exports_of(alloc: Global, keys: &[Key], exports: &[Key]) -> Result<Items<u64>, NoMemory>
     ensures { IfOk result (λ numbers. numbers ≡ map (pred_number keys.now) exports.now) }
 {
     let mut numbers = Items::new(alloc);
@@ -232,97 +223,120 @@ fn entries_of(alloc: Global, exported: &[u64]) -> Result<Items<Entry>, NoMemory>
     Ok(entries)
 }
 
-// Whether each goal names a predicate that has clauses.
-fn goals_are_defined(keys: &[Key], clause: &ReadClause) -> bool
-    ensures { result ≡ list_all (λ goal. is_defined keys.now (key_of goal)) clause.now.written.goals }
+fn program_of(alloc: Global, unit: Unit, keys: &[Key]) -> Result<Program, NoMemory>
+    requires { keys.now ≡ keys_of unit }
+    ensures { IfOk result (λ program. program ≡ program_of unit) }
 {
-    for goal in clause.written.goals.as_slice() {
-        if !is_defined(keys, key_of(goal)) {
-            return false;
-        }
-    }
-    true
-}
-
-// Whether each goal of the clauses names a predicate that has clauses.
-fn bodies_are_defined(keys: &[Key], clauses: &[ReadClause]) -> bool
-    ensures { result ≡ list_all (λ c. list_all (λ goal. is_defined keys.now (key_of goal)) c.written.goals) clauses.now }
-{
-    for clause in clauses {
-        if !goals_are_defined(keys, clause) {
-            return false;
-        }
-    }
-    true
-}
-
-// Whether each export names a predicate that has clauses.
-fn exports_are_defined(keys: &[Key], exports: &[Key]) -> bool
-    ensures { result ≡ list_all (is_defined keys.now) exports.now }
-{
-    for export in exports {
-        if !is_defined(keys, *export) {
-            return false;
-        }
-    }
-    true
-}
-
-fn all_defined(keys: &[Key], exports: &[Key], clauses: &[ReadClause]) -> bool
-    ensures { result ≡ all_defined keys.now exports.now clauses.now }
-{
-    exports_are_defined(keys, exports) && bodies_are_defined(keys, clauses)
-}
-
-fn program_of(
-    alloc: Global,
-    names: Names,
-    file: u64,
-    module_name: u64,
-    exports: &[Key],
-    clauses: &[ReadClause],
-    keys: &[Key],
-) -> Result<Program, NoMemory>
-    requires { keys.now ≡ keys_with [] clauses.now }
-    ensures { IfOk result (λ program. program ≡ program_of names file module_name exports.now clauses.now) }
-{
-    let exported = numbers_of(alloc, keys, exports)?;
-    let entries = entries_of(alloc, exported.as_slice())?;
     let mut files = Items::new(alloc);
-    files.push(file)?;
+    files.push(unit.file)?;
+    let conds = conditions_from(alloc, unit.file, unit.sentences.as_slice(), keys)?;
+    let preds = preds_of(alloc, &unit, keys, conds.as_slice())?;
+    let exports = exports_of(alloc, keys, unit.exports.as_slice())?;
+    let entries = entries_of(alloc, exports.as_slice())?;
+    let grammar = basic_grammar(alloc)?;
+    let Unit { names, .. } = unit;
     Ok(Program {
         names,
         files,
-        preds: preds_of(alloc, keys, file, module_name, clauses)?,
-        conds: Items::new(alloc),
+        preds,
+        conds,
         claims: Items::new(alloc),
-        grammar: basic_grammar(alloc)?,
-        exports: exported,
+        grammar,
+        exports,
         entries,
     })
 }
 
-/// The program of a file with these names, exports and clauses, or `None` where a goal or an
-/// export names a predicate that has no clauses.
+// Whether a goal of a clause names a predicate that has no clauses.
+fn has_undefined_goal(keys: &[Key], goals: &[Term]) -> bool
+    ensures { result ≡ list_any (λ goal. not (is_defined keys.now (key_of goal))) goals.now }
+{
+    goals.iter().any(|goal| !is_defined(keys, key_of(goal)))
+}
+
+fn names_undefined(keys: &[Key], sentence: &ReadSentence) -> bool
+    ensures { result ≡ names_undefined keys.now sentence.now }
+{
+    match sentence {
+        ReadSentence::Clause(clause) => has_undefined_goal(keys, clause.written.goals.as_slice()),
+        ReadSentence::Assertion(assertion) => !is_defined(keys, assertion.key),
+    }
+}
+
+fn sentence_line(sentence: &ReadSentence) -> u64
+    ensures { result ≡ sentence_line sentence.now }
+{
+    match sentence {
+        ReadSentence::Clause(clause) => clause.line,
+        ReadSentence::Assertion(assertion) => assertion.line,
+    }
+}
+
+// The lesser of the least of numbers and the least of others.
+fn lesser(first: Option<u64>, second: Option<u64>) -> Option<u64>
+    ensures { (before behind : List ℕ) → first ≡ least before → second ≡ least behind → result ≡ least (before ++ behind) }
+{
+    match (first, second) {
+        (Some(left), Some(right)) => Some(left.min(right)),
+        (Some(_), None) => first,
+        (None, _) => second,
+    }
+}
+
+// Whether an export names a predicate that has no clauses.
+fn has_undefined(keys: &[Key], exports: &[Key]) -> bool
+    ensures { result ≡ list_any (λ export. not (is_defined keys.now export)) exports.now }
+{
+    exports.iter().any(|export| !is_defined(keys, *export))
+}
+
+// The line of the module directive, where an export names a predicate that has no clauses.
+fn undefined_export(keys: &[Key], exports: &[Key], line: u64) -> Option<u64>
+    ensures { result ≡ least (map (λ e. line) (filter (λ e. not (is_defined keys.now e)) exports.now)) }
+{
+    if has_undefined(keys, exports) {
+        Some(line)
+    } else {
+        None
+    }
+}
+
+// The least line of a sentence that names a predicate without clauses.
+fn undefined_sentence(keys: &[Key], sentences: &[ReadSentence]) -> Option<u64>
+    ensures { result ≡ least (map sentence_line (filter (names_undefined keys.now) sentences.now)) }
+{
+    let mut least = None;
+    for sentence in sentences {
+        if names_undefined(keys, sentence) {
+            least = lesser(least, Some(sentence_line(sentence)));
+        }
+    }
+    least
+}
+
+// The least line that names a predicate without clauses.
+fn undefined_line(unit: &Unit, keys: &[Key]) -> Option<u64>
+    requires { keys.now ≡ keys_of unit.now }
+    ensures { result ≡ least (undefined_lines unit.now) }
+{
+    let export = undefined_export(keys, unit.exports.as_slice(), unit.line);
+    lesser(export, undefined_sentence(keys, unit.sentences.as_slice()))
+}
+
+/// The program of a unit, or the least line that names a predicate without clauses.
 ///
 /// # Errors
 /// Want of memory.
-pub(crate) fn link(
-    alloc: Global,
-    names: Names,
-    file: u64,
-    module_name: u64,
-    exports: &[Key],
-    clauses: &[ReadClause],
-) -> Result<Option<Program>, NoMemory>
-    ensures { IfOk result (λ answer. answer ≡ linked names file module_name exports.now clauses.now) }
+pub(crate) fn link(alloc: Global, unit: Unit) -> Result<LinkResult, NoMemory>
+    ensures linked { IfOk result (λ answer. answer ≡ linked unit) }
+    ensures built { IfOk result (λ answer. (p : Program) → answer ≡ LinkResult.Program p → is_built p ≡ true) }
 {
-    let keys = keys_of(alloc, clauses)?;
-    let keys = keys.as_slice();
-    if all_defined(keys, exports, clauses) {
-        let program = program_of(alloc, names, file, module_name, exports, clauses, keys)?;
-        Ok(Some(program))
-    } else {
-        Ok(None)
+    let keys = keys_of(alloc, unit.sentences.as_slice())?;
+    match undefined_line(&unit, keys.as_slice()) {
+        Some(line) => Ok(LinkResult::Undefined(line)),
+        None => {
+            let program = program_of(alloc, unit, keys.as_slice())?;
+            Ok(LinkResult::Program(program))
+        }
     }
 }

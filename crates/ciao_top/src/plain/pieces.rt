@@ -1,9 +1,9 @@
 // The pieces of a plain text, one by one from its front.
-ghost use Rattle.std.specs.Prelude.{◌≡◌, ◌≤◌, length, option_map};
+ghost use Rattle.std.specs.Prelude.{◌≡◌, ◌≤◌, true, length, option_map};
 ghost use Rattle.std.specs.List.{prefix_len};
 ghost use Rattle.ciao_top.specs.Words.{is_upper, is_digit, is_name_byte};
-ghost use Rattle.ciao_top.specs.Pieces.{is_symbol, starts, starts_fraction, stands, comment, name, variable, number, slash, stop};
-ghost use Rattle.ciao_top.specs.Scanning.{class_of, sign_class, in_line, ends_stop, run, behind_run, checked, neck_front, first_front, front};
+ghost use Rattle.ciao_top.specs.Pieces.{is_symbol, starts, starts_fraction, stands, comment, name, variable, number, stop};
+ghost use Rattle.ciao_top.specs.Scanning.{class_of, sign_class, in_line, ends_stop, run, behind_run, is_sign, checked, colon_front, implies_front, piece_of, first_front, front};
 
 use crate::words::{is_digit, is_lower, is_name_byte, number};
 
@@ -18,6 +18,7 @@ pub(crate) enum Class {
     Blank,
     Percent,
     Colon,
+    Equals,
     Slash,
     Point,
     Paren,
@@ -38,6 +39,8 @@ pub(crate) enum Part<'a> {
     Variable(&'a [u8]),
     Number(&'a [u8]),
     Neck,
+    Colon,
+    Implies,
     Slash,
     Paren,
     CloseParen,
@@ -89,6 +92,8 @@ fn sign_class(byte: u8) -> Class
         Class::Comma
     } else if byte == b':' {
         Class::Colon
+    } else if byte == b'=' {
+        Class::Equals
     } else if byte == b'/' {
         Class::Slash
     } else if byte == b'.' {
@@ -243,35 +248,47 @@ fn whole_number(text: &[u8]) -> Option<Found<'_>>
     }
 }
 
-// The neck, from what stands behind its colon.
-fn neck(text: &[u8]) -> Option<Found<'_>>
-    ensures { option_map front result ≡ neck_front text.now }
+// A sign of symbol characters, where no other one makes it longer.
+fn sign<'a>(part: Part<'a>, behind: &'a [u8]) -> Option<Found<'a>>
+    requires { is_sign (piece_of part) ≡ true }
+    ensures { option_map front result ≡ checked (piece_of part.entry) behind.now }
+{
+    if starts_with_symbol(behind) {
+        None
+    } else {
+        Some(Found { part, behind })
+    }
+}
+
+// The neck or the colon, from what stands behind its colon.
+fn colon(text: &[u8]) -> Option<Found<'_>>
+    ensures { option_map front result ≡ colon_front text.now }
 {
     match text.split_first() {
-        None => None,
+        None => sign(Part::Colon, text),
         Some((first, behind)) => {
-            if *first == b'-' && !starts_with_symbol(behind) {
-                Some(Found {
-                    part: Part::Neck,
-                    behind,
-                })
+            if *first == b'-' {
+                sign(Part::Neck, behind)
             } else {
-                None
+                sign(Part::Colon, text)
             }
         }
     }
 }
 
-fn slash(behind: &[u8]) -> Option<Found<'_>>
-    ensures { option_map front result ≡ checked slash behind.now }
+// `=>`, from what stands behind its `=`.
+fn implies(text: &[u8]) -> Option<Found<'_>>
+    ensures { option_map front result ≡ implies_front text.now }
 {
-    if starts_with_symbol(behind) {
-        None
-    } else {
-        Some(Found {
-            part: Part::Slash,
-            behind,
-        })
+    match text.split_first() {
+        None => None,
+        Some((first, behind)) => {
+            if *first == b'>' {
+                sign(Part::Implies, behind)
+            } else {
+                None
+            }
+        }
     }
 }
 
@@ -304,8 +321,9 @@ pub(crate) fn first_piece(text: &[u8]) -> Option<Found<'_>>
                 behind,
             }),
             Class::Percent => Some(comment(behind)),
-            Class::Colon => neck(behind),
-            Class::Slash => slash(behind),
+            Class::Colon => colon(behind),
+            Class::Equals => implies(behind),
+            Class::Slash => sign(Part::Slash, behind),
             Class::Point => stop(behind),
             Class::Paren => Some(Found {
                 part: Part::Paren,

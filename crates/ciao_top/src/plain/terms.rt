@@ -58,7 +58,8 @@ pub(crate) fn is_comma(kinds: &[Kind], at: usize) -> bool
     matches!(kind_at(kinds, at), Some(Kind::Comma))
 }
 
-fn is_close(kinds: &[Kind], at: usize) -> bool
+/// Whether a parenthesis closes at a place.
+pub(crate) fn is_close(kinds: &[Kind], at: usize) -> bool
     ensures { result ≡ begins_close (drop at kinds.now) }
 {
     matches!(kind_at(kinds, at), Some(Kind::CloseParen))
@@ -111,6 +112,8 @@ pub(crate) fn term(
             Kind::Name(name) => named(alloc, kinds, at + 1, depth, name),
             Kind::Bracket => list(alloc, kinds, at + 1, depth),
             Kind::Neck
+            | Kind::Colon
+            | Kind::Implies
             | Kind::Slash
             | Kind::CallParen
             | Kind::Paren
@@ -225,6 +228,8 @@ fn tail(alloc: Global, kinds: &[Kind], at: usize, depth: u64) -> Result<Option<P
             | Kind::Variable(_)
             | Kind::Number(_)
             | Kind::Neck
+            | Kind::Colon
+            | Kind::Implies
             | Kind::Slash
             | Kind::CallParen
             | Kind::Paren

@@ -25,6 +25,9 @@ pub(crate) enum Kind {
     Number(i64),
     /// `:-`
     Neck,
+    Colon,
+    /// `=>`
+    Implies,
     Slash,
     /// A parenthesis directly behind a name of letters.
     CallParen,
@@ -228,6 +231,8 @@ impl<'a> Scan<'a> {
             Part::Variable(word) => self.add_variable(word),
             Part::Number(digits) => self.put(Kind::Number(value_of(digits))),
             Part::Neck => self.put(Kind::Neck),
+            Part::Colon => self.put(Kind::Colon),
+            Part::Implies => self.put(Kind::Implies),
             Part::Slash => self.put(Kind::Slash),
             Part::Paren => self.put(paren_kind(self.called)),
             Part::CloseParen => self.put(Kind::CloseParen),

@@ -1,19 +1,14 @@
 use Rattle.std.proofs.Common.{sym, ◌∙◌}
 use Rattle.ciao_top.proofs.PlainLaws.{file_of_text, text_of_file}
-use Rattle.ciao_top.proofs.LinkBuilt.{text_is_built}
 use Rattle.ciao_top.proofs.PlainAnswers.{some_then, none_then}
 use Rattle.ciao_top.proofs.plain.read_file.Goals as goal
 
 pub returns-then-is_ascii-clause-some : goal.returns-then-is_ascii-clause-some
 returns-then-is_ascii-clause-some c =
-    some_then c.read_text.result
-    (λ program a. file_of_text c.args.base.now c.args.bytes.now program c.if-bytes-le-SIZE_LIMIT.true (sym c.is_ascii.ensures ∙ c.if-is_ascii.true) a)
-    c.read_text.ensures.some
+    some_then c.unit_of_text.result
+    (λ m a. file_of_text c.args.base.now c.args.bytes.now m c.if-bytes-le-SIZE_LIMIT.true (sym c.is_ascii.ensures ∙ c.if-is_ascii.true) a)
+    c.unit_of_text.ensures.some
 
 pub returns-then-is_ascii-clause-none : goal.returns-then-is_ascii-clause-none
 returns-then-is_ascii-clause-none c =
-    none_then c.read_text.result (λ none program a. none program (text_of_file c.args.base.now c.args.bytes.now program a)) c.read_text.ensures.none
-
-pub returns-then-is_ascii-clause-built : goal.returns-then-is_ascii-clause-built
-returns-then-is_ascii-clause-built c =
-    some_then c.read_text.result (λ program a. text_is_built c.args.base.now c.args.bytes.now program a) c.read_text.ensures.some
+    none_then c.unit_of_text.result (λ none m a. none m (text_of_file c.args.base.now c.args.bytes.now m a)) c.unit_of_text.ensures.none

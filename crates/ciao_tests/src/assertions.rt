@@ -1,0 +1,373 @@
+// Files with assertions: conditions that hold, and the first that is broken.
+use crate::runs::{Case, run_file};
+use std::alloc::{AllocError, Global};
+use std::test::Fail;
+
+const EITHER: &str = ":- module(c,[p/1]).\n:- pred p(X) : int(X).\n:- pred p(X) : atm(X).\np(_).\n";
+
+const LISTS: &str = ":- module(c,[p/1]).\n:- pred p(X) : list(X).\np(_).\n";
+
+const SECOND: &str = ":- module(c,[p/1]).\n:- pred p(X) => int(X).\np(1).\np(a).\n";
+
+const GIVES: &str = ":- module(c,[p/1]).\n:- pred p(X) : var(X) => int(X).\np(1).\np(a).\n";
+
+const LATER: &str =
+    ":- module(c,[p/1]).\n:- pred p(X) : var(X).\n:- pred p(X) : int(X) => atm(X).\np(1).\n";
+
+const NOTED: &str =
+    ":- module(c,[q/0,r/0]).\n:- pred p(X,Y) : int(X) => int(Y).\n:- pred p(X,Y) : atm(X).\np(1,2).\np(a,b).\np(3,c).\nq :- p(1,Y), p(a,Z).\nr :- p(a,Z), p(3,Y).\n";
+
+const INNER: &str = ":- module(c,[q/0]).\nq :- p(a).\n:- pred p(X) : int(X).\np(_).\n";
+
+const BOTH: &str =
+    ":- module(c,[p/2]).\n:- pred p(X,Y) : (int(X), var(Y)) => (atm(Y), int(X)).\np(1,a).\np(2,3).\n";
+
+const ORDER: &str =
+    ":- module(c,[p/1]).\n:- pred p(X) => list(X).\n:- pred p(X) => atm(X).\np(7).\np([]).\np([a]).\n";
+
+const COUNTED: &str =
+    ":- module(c,[n/2]).\n:- pred n(X,Y) : list(X) => list(Y).\nn([],[]).\nn([X|Xs],[X|Ys]) :- n(Xs,Ys).\n";
+
+const CASES: [Case; 37] = [
+    // two assertions of one predicate, of which one has to hold at a call
+    Case {
+        text: EITHER,
+        query: "p(f(a))",
+        steps: "1000",
+        written: "end: violated c.pl:2 calls p/1\n",
+        status: 1,
+    },
+    Case {
+        text: EITHER,
+        query: "p(b)",
+        steps: "1000",
+        written: "answer: p(b)\nend: no more answers\n",
+        status: 0,
+    },
+    Case {
+        text: EITHER,
+        query: "p(7)",
+        steps: "1000",
+        written: "answer: p(7)\nend: no more answers\n",
+        status: 0,
+    },
+    Case {
+        text: EITHER,
+        query: "p(X)",
+        steps: "1000",
+        written: "end: violated c.pl:2 calls p/1\n",
+        status: 1,
+    },
+    // no call is made, so no condition is broken
+    Case {
+        text: EITHER,
+        query: "p(f(a))",
+        steps: "0",
+        written: "end: unknown, step bound\n",
+        status: 5,
+    },
+    // a list that is open, one that is improper, and lists with unbound elements
+    Case {
+        text: LISTS,
+        query: "p([1|T])",
+        steps: "1000",
+        written: "end: violated c.pl:2 calls p/1\n",
+        status: 1,
+    },
+    Case {
+        text: LISTS,
+        query: "p([1|a])",
+        steps: "1000",
+        written: "end: violated c.pl:2 calls p/1\n",
+        status: 1,
+    },
+    Case {
+        text: LISTS,
+        query: "p([A,B])",
+        steps: "1000",
+        written: "answer: p([_1,_2])\nend: no more answers\n",
+        status: 0,
+    },
+    Case {
+        text: LISTS,
+        query: "p([A,A|[b]])",
+        steps: "1000",
+        written: "answer: p([_1,_1,b])\nend: no more answers\n",
+        status: 0,
+    },
+    Case {
+        text: LISTS,
+        query: "p([])",
+        steps: "1000",
+        written: "answer: p([])\nend: no more answers\n",
+        status: 0,
+    },
+    Case {
+        text: LISTS,
+        query: "p(T)",
+        steps: "1000",
+        written: "end: violated c.pl:2 calls p/1\n",
+        status: 1,
+    },
+    // a postcondition that the second answer breaks, and not the first
+    Case {
+        text: SECOND,
+        query: "p(X)",
+        steps: "1000",
+        written: "answer: p(1)\nend: violated c.pl:2 success p/1\n",
+        status: 1,
+    },
+    Case {
+        text: SECOND,
+        query: "p(1)",
+        steps: "1000",
+        written: "answer: p(1)\nend: no more answers\n",
+        status: 0,
+    },
+    Case {
+        text: SECOND,
+        query: "p(a)",
+        steps: "1000",
+        written: "end: violated c.pl:2 success p/1\n",
+        status: 1,
+    },
+    Case {
+        text: SECOND,
+        query: "p(f(X))",
+        steps: "1000",
+        written: "end: no more answers\n",
+        status: 0,
+    },
+    // a precondition that holds at the call and no longer at the exit: its postcondition is tested
+    Case {
+        text: GIVES,
+        query: "p(X)",
+        steps: "1000",
+        written: "answer: p(1)\nend: violated c.pl:2 success p/1\n",
+        status: 1,
+    },
+    Case {
+        text: GIVES,
+        query: "p(1)",
+        steps: "1000",
+        written: "end: violated c.pl:2 calls p/1\n",
+        status: 1,
+    },
+    // a precondition that holds at the exit and not at the call: its postcondition is not tested
+    Case {
+        text: LATER,
+        query: "p(X)",
+        steps: "1000",
+        written: "answer: p(1)\nend: no more answers\n",
+        status: 0,
+    },
+    Case {
+        text: LATER,
+        query: "p(1)",
+        steps: "1000",
+        written: "end: violated c.pl:3 success p/1\n",
+        status: 1,
+    },
+    Case {
+        text: LATER,
+        query: "p(a)",
+        steps: "1000",
+        written: "end: violated c.pl:2 calls p/1\n",
+        status: 1,
+    },
+    // a success condition that one call of a predicate notes, and the next one does not
+    Case {
+        text: NOTED,
+        query: "q",
+        steps: "1000",
+        written: "answer: q\nend: no more answers\n",
+        status: 0,
+    },
+    Case {
+        text: NOTED,
+        query: "r",
+        steps: "1000",
+        written: "end: violated c.pl:2 success p/2\n",
+        status: 1,
+    },
+    // a condition on a predicate that is not exported
+    Case {
+        text: INNER,
+        query: "q",
+        steps: "1000",
+        written: "end: violated c.pl:3 calls p/1\n",
+        status: 1,
+    },
+    // several properties, of several arguments, before and after
+    Case {
+        text: BOTH,
+        query: "p(1,Y)",
+        steps: "1000",
+        written: "answer: p(1,a)\nend: no more answers\n",
+        status: 0,
+    },
+    Case {
+        text: BOTH,
+        query: "p(2,Y)",
+        steps: "1000",
+        written: "end: violated c.pl:2 success p/2\n",
+        status: 1,
+    },
+    Case {
+        text: BOTH,
+        query: "p(a,Y)",
+        steps: "1000",
+        written: "end: violated c.pl:2 calls p/2\n",
+        status: 1,
+    },
+    Case {
+        text: BOTH,
+        query: "p(1,a)",
+        steps: "1000",
+        written: "end: violated c.pl:2 calls p/2\n",
+        status: 1,
+    },
+    // two postconditions: the first that is broken is told
+    Case {
+        text: ORDER,
+        query: "p(7)",
+        steps: "1000",
+        written: "end: violated c.pl:2 success p/1\n",
+        status: 1,
+    },
+    Case {
+        text: ORDER,
+        query: "p([])",
+        steps: "1000",
+        written: "answer: p([])\nend: no more answers\n",
+        status: 0,
+    },
+    Case {
+        text: ORDER,
+        query: "p([_])",
+        steps: "1000",
+        written: "end: violated c.pl:3 success p/1\n",
+        status: 1,
+    },
+    // conditions on each call of a recursion
+    Case {
+        text: COUNTED,
+        query: "n([1,2],Y)",
+        steps: "1000",
+        written: "answer: n([1,2],[1,2])\nend: no more answers\n",
+        status: 0,
+    },
+    Case {
+        text: COUNTED,
+        query: "n([1|a],Y)",
+        steps: "1000",
+        written: "end: violated c.pl:2 calls n/2\n",
+        status: 1,
+    },
+    Case {
+        text: COUNTED,
+        query: "n([],Y)",
+        steps: "1000",
+        written: "answer: n([],[])\nend: no more answers\n",
+        status: 0,
+    },
+    // how assertions may be written
+    Case {
+        text: ":- module(c,[p/1]).\n:-pred p(X):(int(X),nnegint(X))=>int(X).\np(1).\n",
+        query: "p(1)",
+        steps: "1000",
+        written: "answer: p(1)\nend: no more answers\n",
+        status: 0,
+    },
+    Case {
+        text: ":- module(c,[p/1]).\n% what comes out\n:- pred p( % the argument\n  X ) => ( int( X ) , gnd(X)\n) .\np(a).\n",
+        query: "p(X)",
+        steps: "1000",
+        written: "end: violated c.pl:3 success p/1\n",
+        status: 1,
+    },
+    Case {
+        text: ":- module(c,[p/2]).\np(1,2).\n:- pred p(_,Y) => var(Y).\n",
+        query: "p(A,B)",
+        steps: "1000",
+        written: "end: violated c.pl:3 success p/2\n",
+        status: 1,
+    },
+    Case {
+        text: ":- module(c,[p/2]). p(1,2). :- pred p(X,Y) : int(Y)\n=>(int(X),int(X)).\n",
+        query: "p(A,2)",
+        steps: "1000",
+        written: "answer: p(1,2)\nend: no more answers\n",
+        status: 0,
+    },
+];
+
+#[test]
+fn runs_with_assertions(rt: HostRuntime) -> Result<(), Fail> {
+    let alloc = rt.alloc();
+    for case in &CASES {
+        let (out, status) = run_file(&rt, alloc, case.text.as_bytes(), case.query, case.steps)?;
+        assert_eq!(rt; out.bytes(), case.written.as_bytes());
+        assert_eq!(rt; status, case.status);
+    }
+    Ok(())
+}
+
+// Sentences that are no plain assertion.
+const OTHERS: [&str; 35] = [
+    ":- pred p(X).",
+    ":- pred p(X) : (int(X)).",
+    ":- pred p(X) : small(X).",
+    ":- pred p(X) : int(Y).",
+    ":- pred p(X) : int(1).",
+    ":- pred p(X) : int(f(X)).",
+    ":- pred p(X,X) : int(X).",
+    ":- pred p(1) : int(X).",
+    ":- pred p(f(X)) : int(X).",
+    ":- pred p(X) => int(X) : int(X).",
+    ":- pred p(X) : int(X) : atm(X).",
+    ":- pred p(X) => int(X) => atm(X).",
+    ":- pred p(X) : int(X), atm(X).",
+    ":- pred p(X) : (int(X),).",
+    ":- pred p(X) : (int(X) atm(X)).",
+    ":- pred p(X) : list(X,int).",
+    ":- pred p(X) : int.",
+    ":- pred p(X) : true.",
+    ":- pred p(X) : X.",
+    ":- pred(p(X) : int(X)).",
+    ":- pred (p(X)) : int(X).",
+    ":- pred p : int(X).",
+    ":- pred int(X) : int(X).",
+    ":- pred [X] : int(X).",
+    ":- calls p(X) : int(X).",
+    ":- check pred p(X) : int(X).",
+    ":- pred p(X) : int(X) + is_det.",
+    ":- pred p(X) : int(X)",
+    ":- p(X).",
+    ":- pred p(X) : int(X) :- p(X).",
+    ":- pred p(X) :- int(X).",
+    ":- pred p(X) :-int(X).",
+    ":- pred p(X) : =>int(X).",
+    ":- pred p(X) = > int(X).",
+    ":- pred p/1 : int(X).",
+];
+
+// A module with that sentence.
+fn module_with(alloc: Global, sentence: &str) -> Result<String, AllocError> {
+    let mut text = String::from_str(alloc, ":- module(c,[p/1]).\np(1).\np(1,2).\n")?;
+    text.push_str(sentence)?;
+    text.push_str("\n")?;
+    Ok(text)
+}
+
+#[test]
+fn sentences_that_are_no_plain_assertions(rt: HostRuntime) -> Result<(), Fail> {
+    let alloc = rt.alloc();
+    for sentence in OTHERS {
+        let text = module_with(alloc, sentence)?;
+        let (out, status) = run_file(&rt, alloc, text.as_bytes(), "p(1)", "5")?;
+        assert_eq!(rt; out.bytes(), "fault: c.pl:0 NotBuilt\n".as_bytes());
+        assert_eq!(rt; status, 3);
+    }
+    Ok(())
+}
