@@ -49,6 +49,22 @@ nil = 0
 abbrev pub cell : ℕ
 cell = 1
 
+-- {}
+abbrev pub braces : ℕ
+braces = 2
+
+-- the comma
+abbrev pub comma : ℕ
+comma = 3
+
+-- the bar
+abbrev pub bar : ℕ
+bar = 4
+
+-- :-
+abbrev pub neck : ℕ
+neck = 15
+
 -- +
 abbrev pub plus : ℕ
 plus = 47
@@ -77,6 +93,10 @@ modulo = 53
 pub record NamesArePlaces : Type 0 where
   pub nil_is : slice_get fixed_names nil ≡ Some (codes "[]")
   pub cell_is : slice_get fixed_names cell ≡ Some (codes ".")
+  pub braces_is : slice_get fixed_names braces ≡ Some (codes "{}")
+  pub comma_is : slice_get fixed_names comma ≡ Some (codes ",")
+  pub bar_is : slice_get fixed_names bar ≡ Some (codes "|")
+  pub neck_is : slice_get fixed_names neck ≡ Some (codes ":-")
   pub plus_is : slice_get fixed_names plus ≡ Some (codes "+")
   pub minus_is : slice_get fixed_names minus ≡ Some (codes "-")
   pub times_is : slice_get fixed_names times ≡ Some (codes "*")

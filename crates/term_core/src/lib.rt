@@ -4,7 +4,9 @@
 mod equations;
 mod memory;
 mod names;
+mod operators;
 mod printing;
+mod standard;
 mod terms;
 #[cfg(test)]
 mod tests;
@@ -12,5 +14,8 @@ mod tests;
 pub use equations::{Binding, Equation, Outcome, unification_law};
 pub use memory::NoMemory;
 pub use names::{Names, names_law, names_threads_law};
+pub use operators::{
+    Definition, Op, OpFault, OpKind, OpTable, Operators, operators_law, operators_threads_law,
+};
 pub use printing::print_term;
 pub use terms::{Term, copy, depth, vars};

@@ -113,7 +113,7 @@ pub fn names_law()
 {}
 
 // What is true of every type that may go to another thread and be shared.
-fn crosses<T: Send + Sync>()
+pub(crate) fn crosses<T: Send + Sync>()
     ensures send { IsSend T.row }
     ensures sync { IsSync T.row }
 {}

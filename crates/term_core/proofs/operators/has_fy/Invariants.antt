@@ -1,0 +1,6 @@
+use Rattle.std.proofs.Common.{◌≡◌, drop}
+use Rattle.term_core.specs.Operators.{has_kind, is_fy}
+use Rattle.term_core.proofs.operators.has_fy.Given as goal
+
+abbrev pub invariant-loop-known : goal.invariant-loop-known
+invariant-loop-known l = has_kind is_fy (drop l.known-index l.definitions) l.priority ≡ has_kind is_fy l.definitions l.priority
