@@ -72,7 +72,7 @@ abbrev pub starts_fraction : List ℕ → Bool
 starts_fraction [] = false
 starts_fraction (c ∷ cs) = c == 46 && starts is_ascii_digit cs
 
--- whether such a token of these bytes may stand directly before what is behind it: no name where a comment opens, no number before a letter or `_`, no decimal digits before a fraction, nothing quoted before its own quote, and a `.` only before layout or the end (a `.` with a comment `/*` behind it is a longer name)
+-- whether such a token of these bytes may stand directly before what is behind it: no name where a comment opens, no number before an ASCII letter or `_`, no decimal digits before a fraction, nothing quoted before its own quote, and a `.` only before layout or the end (a `.` with a comment `/*` behind it is a longer name)
 abbrev pub stands : Shape → List ℕ → List ℕ → Bool
 stands (name word) bytes behind = not (opens_comment (bytes ++ behind))
 stands (quoted word) bytes behind = not (starts (λ c. c == 39) behind)

@@ -10,7 +10,7 @@ struct Case {
     told: &'static str,
 }
 
-const CASES: [Case; 74] = [
+const CASES: [Case; 81] = [
     // each row of the table
     Case {
         text: "a aB_1 + =.. ! ; [] {}",
@@ -309,6 +309,35 @@ const CASES: [Case; 74] = [
     Case {
         text: "9223372036854775809a",
         told: "bad 1",
+    },
+    // lines of quoted items that go on, and the first of two faults
+    Case {
+        text: "'a\\\nb' c",
+        told: "q:ab ~n:c@2",
+    },
+    Case {
+        text: "'a\\\r\nb'",
+        told: "bad 1",
+    },
+    Case {
+        text: "'a\n''b",
+        told: "bad 1",
+    },
+    Case {
+        text: "0'\né",
+        told: "bad 2",
+    },
+    Case {
+        text: "9223372036854775809\n`",
+        told: "range 1",
+    },
+    Case {
+        text: "`\n9223372036854775809",
+        told: "bad 1",
+    },
+    Case {
+        text: "+-*/\\^<>=~:.?@#&$",
+        told: "n:+-*/\\^<>=~:.?@#&$",
     },
 ];
 
