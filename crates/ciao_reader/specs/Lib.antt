@@ -1,0 +1,9 @@
+pub mod Roles
+pub mod Derivations
+pub mod Readings
+pub mod Changes
+pub mod Sentences
+pub mod Faults
+pub mod Parts
+pub mod Steps
+pub mod Laws

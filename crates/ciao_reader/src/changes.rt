@@ -1,0 +1,208 @@
+// What a sentence makes of the operators.
+ghost use Rattle.std.specs.Prelude.{◌≡◌, ◌∷◌, [], false, codes, Some, None, IfOk, OnOk, OnErr, IsErrOf, MatchOption};
+ghost use Rattle.term_core.specs.Names.{nil, cell};
+ghost use Rattle.term_core.specs.declared.terms.Term.{out-Term};
+ghost use Rattle.term_core.specs.Terms.{is_atom_of};
+ghost use Rattle.term_core.specs.Printing.{is_cell};
+ghost use Rattle.ciao_reader.specs.Changes.{kind_named, alone, listed, names_in, added_all, text_of, after_op, after_directive, table_after};
+
+use sqlite_items::Items;
+use std::alloc::Global;
+use term_core::{Names, NoMemory, OpFault, OpKind, OpTable, Term};
+
+// The numbers of `[]`, the list cell and `:-` among the names.
+const NIL: u64 = 0;
+
+const CELL: u64 = 1;
+
+const NECK: u64 = 15;
+
+// The kind of operator that a text names.
+fn kind_named(text: &str) -> Option<OpKind>
+    ensures { result ≡ kind_named text.now }
+{
+    if text == "xfx" {
+        Some(OpKind::Xfx)
+    } else if text == "xfy" {
+        Some(OpKind::Xfy)
+    } else if text == "yfx" {
+        Some(OpKind::Yfx)
+    } else if text == "fy" {
+        Some(OpKind::Fy)
+    } else if text == "fx" {
+        Some(OpKind::Fx)
+    } else {
+        None
+    }
+}
+
+// The text of a name, none for a number that is no name's.
+fn text_of(names: &Names, name: u64) -> &str
+    ensures { result.now ≡ text_of names.now name }
+{
+    if name < names.len() {
+        names.text(name)
+    } else {
+        ""
+    }
+}
+
+// The name of an atom.
+fn atom_of(term: &Term) -> Option<u64>
+    ensures { result ≡ alone term.now }
+{
+    match term {
+        Term::Atom(name) => Some(*name),
+        Term::Var(_) | Term::Int(_) | Term::Node(_, _) => None,
+    }
+}
+
+// The item and the tail of a list cell.
+fn list_cell(term: &Term) -> Option<(&Term, &Term)>
+    ensures { MatchOption result (is_cell (out-Term term.now) ≡ false) (λ parts. term.now ≡ Term.Node cell (parts.0.now ∷ parts.1.now ∷ [])) }
+{
+    match term {
+        Term::Var(_) | Term::Int(_) | Term::Atom(_) => None,
+        Term::Node(name, parts) => match parts.as_slice() {
+            [item, tail] => {
+                if *name == CELL {
+                    Some((item, tail))
+                } else {
+                    None
+                }
+            }
+            _ => None,
+        },
+    }
+}
+
+fn is_empty_list(term: &Term) -> bool
+    ensures { result ≡ is_atom_of nil (out-Term term.now) }
+{
+    match term {
+        Term::Atom(name) => *name == NIL,
+        Term::Var(_) | Term::Int(_) | Term::Node(_, _) => false,
+    }
+}
+
+// The names of a proper list of atoms.
+fn listed(alloc: Global, term: &Term) -> Result<Option<Items<u64>>, NoMemory>
+    ensures { IfOk result (λ names. names ≡ listed term.now) }
+{
+    let mut names = Items::new(alloc);
+    let mut left = term;
+    while let Some((item, tail)) = list_cell(left) {
+        match atom_of(item) {
+            None => return Ok(None),
+            Some(name) => names.push(name)?,
+        }
+        left = tail;
+    }
+    if is_empty_list(left) {
+        Ok(Some(names))
+    } else {
+        Ok(None)
+    }
+}
+
+// The names of an atom, or of a proper list of atoms.
+fn names_in(alloc: Global, term: &Term) -> Result<Option<Items<u64>>, NoMemory>
+    ensures { IfOk result (λ names. names ≡ names_in term.now) }
+{
+    match atom_of(term) {
+        Some(name) => {
+            let mut names = Items::new(alloc);
+            names.push(name)?;
+            Ok(Some(names))
+        }
+        None => listed(alloc, term),
+    }
+}
+
+// A change of each name, in order.
+fn add_all(ops: &mut OpTable, priority: i64, kind: OpKind, names: &[u64]) -> Result<(), OpFault>
+    ensures ok { OnOk result (added_all priority kind names.now ops.old ≡ Some ops.new) }
+    ensures refused { IsErrOf result OpFault.OpRefused → added_all priority kind names.now ops.old ≡ None }
+{
+    for name in names {
+        ops.add(priority, kind, *name)?;
+    }
+    Ok(())
+}
+
+// `op(P,K,N)`.
+fn after_op(
+    alloc: Global,
+    names: &Names,
+    ops: &mut OpTable,
+    priority: &Term,
+    kind: &Term,
+    changed: &Term,
+) -> Result<(), OpFault>
+    ensures ok { OnOk result (after_op names.now ops.old (out-Term priority.now) (out-Term kind.now) (names_in changed.now) ≡ Some ops.new) }
+    ensures refused { IsErrOf result OpFault.OpRefused → after_op names.now ops.old (out-Term priority.now) (out-Term kind.now) (names_in changed.now) ≡ None }
+{
+    match priority {
+        Term::Int(priority) => match kind {
+            Term::Atom(kind) => match names_in(alloc, changed)? {
+                Some(changed) => match kind_named(text_of(names, *kind)) {
+                    Some(kind) => add_all(ops, *priority, kind, changed.as_slice()),
+                    None => Err(OpFault::OpRefused),
+                },
+                None => Err(OpFault::OpRefused),
+            },
+            Term::Var(_) | Term::Int(_) | Term::Node(_, _) => Err(OpFault::OpRefused),
+        },
+        Term::Var(_) | Term::Atom(_) | Term::Node(_, _) => Err(OpFault::OpRefused),
+    }
+}
+
+// A directive.
+fn after_directive(
+    alloc: Global,
+    names: &Names,
+    ops: &mut OpTable,
+    directive: &Term,
+) -> Result<(), OpFault>
+    ensures ok { OnOk result (after_directive names.now ops.old (out-Term directive.now) ≡ Some ops.new) }
+    ensures refused { IsErrOf result OpFault.OpRefused → after_directive names.now ops.old (out-Term directive.now) ≡ None }
+{
+    match directive {
+        Term::Node(name, parts) => match parts.as_slice() {
+            [priority, kind, changed] => {
+                if text_of(names, *name) == "op" {
+                    after_op(alloc, names, ops, priority, kind, changed)
+                } else {
+                    Ok(())
+                }
+            }
+            _ => Ok(()),
+        },
+        Term::Var(_) | Term::Int(_) | Term::Atom(_) => Ok(()),
+    }
+}
+
+/// Changes the operators as a sentence says.
+pub(crate) fn after_sentence(
+    alloc: Global,
+    names: &Names,
+    ops: &mut OpTable,
+    sentence: &Term,
+) -> Result<(), OpFault>
+    ensures ok { OnOk result (table_after names.now ops.old sentence.now ≡ Some ops.new) }
+    ensures refused { IsErrOf result OpFault.OpRefused → table_after names.now ops.old sentence.now ≡ None }
+{
+    match sentence {
+        Term::Node(name, parts) => match parts.as_slice() {
+            [directive] => {
+                if *name == NECK {
+                    after_directive(alloc, names, ops, directive)
+                } else {
+                    Ok(())
+                }
+            }
+            _ => Ok(()),
+        },
+        Term::Var(_) | Term::Int(_) | Term::Atom(_) => Ok(()),
+    }
+}

@@ -1,0 +1,22 @@
+//! Sentences read from tokens.
+#![tactic(auto)]
+
+mod changes;
+mod frames;
+mod laws;
+mod limits;
+mod parts;
+mod reader;
+mod reading;
+mod scan;
+mod sentences;
+mod steps;
+#[cfg(test)]
+mod tests;
+mod words;
+
+pub use laws::{
+    every_goal_law, every_text_law, numbers_law, one_goal_law, one_outcome_law, one_reading_law,
+};
+pub use reader::{read_goal, read_sentences};
+pub use sentences::{ReadFault, Sentence, Source};
