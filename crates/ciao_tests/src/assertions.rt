@@ -28,7 +28,7 @@ const ORDER: &str =
 const COUNTED: &str =
     ":- module(c,[n/2]).\n:- pred n(X,Y) : list(X) => list(Y).\nn([],[]).\nn([X|Xs],[X|Ys]) :- n(Xs,Ys).\n";
 
-const CASES: [Case; 37] = [
+const CASES: [Case; 38] = [
     // two assertions of one predicate, of which one has to hold at a call
     Case {
         text: EITHER,
@@ -294,6 +294,13 @@ const CASES: [Case; 37] = [
         status: 1,
     },
     Case {
+        text: ":- module(c,[p/1]).\n:- pred (p(X)) : (int(X)).\n:- pred(p(X) => gnd(X)).\np(1).\n",
+        query: "p(1)",
+        steps: "1000",
+        written: "answer: p(1)\nend: no more answers\n",
+        status: 0,
+    },
+    Case {
         text: ":- module(c,[p/2]). p(1,2). :- pred p(X,Y) : int(Y)\n=>(int(X),int(X)).\n",
         query: "p(A,2)",
         steps: "1000",
@@ -313,46 +320,50 @@ fn runs_with_assertions(rt: HostRuntime) -> Result<(), Fail> {
     Ok(())
 }
 
-// Sentences that are no plain assertion.
-const OTHERS: [&str; 35] = [
-    ":- pred p(X).",
-    ":- pred p(X) : (int(X)).",
-    ":- pred p(X) : small(X).",
-    ":- pred p(X) : int(Y).",
-    ":- pred p(X) : int(1).",
-    ":- pred p(X) : int(f(X)).",
-    ":- pred p(X,X) : int(X).",
-    ":- pred p(1) : int(X).",
-    ":- pred p(f(X)) : int(X).",
-    ":- pred p(X) => int(X) : int(X).",
-    ":- pred p(X) : int(X) : atm(X).",
-    ":- pred p(X) => int(X) => atm(X).",
-    ":- pred p(X) : int(X), atm(X).",
-    ":- pred p(X) : (int(X),).",
-    ":- pred p(X) : (int(X) atm(X)).",
-    ":- pred p(X) : list(X,int).",
-    ":- pred p(X) : int.",
-    ":- pred p(X) : true.",
-    ":- pred p(X) : X.",
-    ":- pred(p(X) : int(X)).",
-    ":- pred (p(X)) : int(X).",
-    ":- pred p : int(X).",
-    ":- pred int(X) : int(X).",
-    ":- pred [X] : int(X).",
-    ":- calls p(X) : int(X).",
-    ":- check pred p(X) : int(X).",
-    ":- pred p(X) : int(X) + is_det.",
-    ":- pred p(X) : int(X)",
-    ":- p(X).",
-    ":- pred p(X) : int(X) :- p(X).",
-    ":- pred p(X) :- int(X).",
-    ":- pred p(X) :-int(X).",
-    ":- pred p(X) : =>int(X).",
-    ":- pred p(X) = > int(X).",
-    ":- pred p/1 : int(X).",
+// Sentences that are no assertion as it is built, with their fault.
+const OTHERS: [(&str, &str); 39] = [
+    (":- pred p(X).", "NotBuilt"),
+    (":- pred p(X) : small(X).", "NotBuilt"),
+    (":- pred p(X) : int(Y).", "NotBuilt"),
+    (":- pred p(X) : int(1).", "NotBuilt"),
+    (":- pred p(X) : int(f(X)).", "NotBuilt"),
+    (":- pred p(X,X) : int(X).", "NotBuilt"),
+    (":- pred p(1) : int(X).", "NotBuilt"),
+    (":- pred p(f(X)) : int(X).", "NotBuilt"),
+    (":- pred p(X) => int(X) : int(X).", "NotBuilt"),
+    (":- pred p(X) : int(X) : atm(X).", "Syntax"),
+    (":- pred p(X) => int(X) => atm(X).", "Syntax"),
+    (":- pred p(X) : int(X), atm(X).", "NotBuilt"),
+    (":- pred p(X) : (int(X),).", "Syntax"),
+    (":- pred p(X) : (int(X) atm(X)).", "Syntax"),
+    (":- pred p(X) : ((int(X), atm(X)), gnd(X)).", "NotBuilt"),
+    (":- pred p(X) : list(X,int).", "NotBuilt"),
+    (":- pred p(X) : int.", "NotBuilt"),
+    (":- pred p(X) : true.", "NotBuilt"),
+    (":- pred p(X) : X.", "NotBuilt"),
+    (":- pred p : int(X).", "NotBuilt"),
+    (":- pred int(X) : int(X).", "NotBuilt"),
+    (":- pred [X] : int(X).", "NotBuilt"),
+    (":- pred X:Y => int(X).", "NotBuilt"),
+    (":- pred (X # Y) : int(X).", "NotBuilt"),
+    (":- pred (X => Y) : int(X).", "NotBuilt"),
+    (":- pred (X : Y) : int(X).", "NotBuilt"),
+    (":- pred (X + Y) : int(X).", "NotBuilt"),
+    (":- pred X : int(X).", "NotBuilt"),
+    (":- calls p(X) : int(X).", "NotBuilt"),
+    (":- check pred p(X) : int(X).", "NotBuilt"),
+    (":- pred p(X) : int(X) + is_det.", "NotBuilt"),
+    (":- pred p(X) : int(X) # \"a comment\".", "NotBuilt"),
+    (":- pred p(X) : int(X)", "NoEnd"),
+    (":- p(X).", "NotBuilt"),
+    (":- pred p(X) : int(X) :- p(X).", "Syntax"),
+    (":- pred p(X) :- int(X).", "Syntax"),
+    (":- pred p(X) : =>int(X).", "Syntax"),
+    (":- pred p(X) = > int(X).", "Syntax"),
+    (":- pred p/1 : int(X).", "NotBuilt"),
 ];
 
-// A module with that sentence.
+// A module with that sentence in line 4.
 fn module_with(alloc: Global, sentence: &str) -> Result<String, AllocError> {
     let mut text = String::from_str(alloc, ":- module(c,[p/1]).\np(1).\np(1,2).\n")?;
     text.push_str(sentence)?;
@@ -361,12 +372,15 @@ fn module_with(alloc: Global, sentence: &str) -> Result<String, AllocError> {
 }
 
 #[test]
-fn sentences_that_are_no_plain_assertions(rt: HostRuntime) -> Result<(), Fail> {
+fn sentences_that_are_no_assertions(rt: HostRuntime) -> Result<(), Fail> {
     let alloc = rt.alloc();
-    for sentence in OTHERS {
+    for (sentence, fault) in OTHERS {
         let text = module_with(alloc, sentence)?;
         let (out, status) = run_file(&rt, alloc, text.as_bytes(), "p(1)", "5")?;
-        assert_eq!(rt; out.bytes(), "fault: c.pl:0 NotBuilt\n".as_bytes());
+        let mut written = String::from_str(alloc, "fault: c.pl:4 ")?;
+        written.push_str(fault)?;
+        written.push_str("\n")?;
+        assert_eq!(rt; out.bytes(), written.as_bytes());
         assert_eq!(rt; status, 3);
     }
     Ok(())

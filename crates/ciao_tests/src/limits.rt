@@ -1,4 +1,4 @@
-// The limits of plain files.
+// The limits of files.
 use crate::plain::COUNT;
 use crate::runs::run_file;
 use std::alloc::{AllocError, Global};
@@ -70,7 +70,7 @@ fn depth_of_a_sentence(rt: HostRuntime) -> Result<(), Fail> {
         "s(z)",
         "1",
     )?;
-    assert_eq!(rt; refused.bytes(), "fault: c.pl:0 NotBuilt\n".as_bytes());
+    assert_eq!(rt; refused.bytes(), "fault: c.pl:2 TooDeep\n".as_bytes());
     assert_eq!(rt; status, 3);
     let (unread, status) = run_file(&rt, alloc, COUNT.as_bytes(), &deeper, "1")?;
     assert_eq!(rt; unread.bytes(), "fault: query unread\n".as_bytes());
@@ -107,7 +107,7 @@ fn arity_of_a_compound(rt: HostRuntime) -> Result<(), Fail> {
         "p(a)",
         "1",
     )?;
-    assert_eq!(rt; refused.bytes(), "fault: c.pl:0 NotBuilt\n".as_bytes());
+    assert_eq!(rt; refused.bytes(), "fault: c.pl:2 Syntax\n".as_bytes());
     assert_eq!(rt; status, 3);
     Ok(())
 }
@@ -128,7 +128,7 @@ fn size_of_a_file(rt: HostRuntime) -> Result<(), Fail> {
     );
     assert_eq!(rt; status, 0);
     let (refused, status) = run_file(&rt, alloc, sized(alloc, 1_048_577)?.as_bytes(), "p", "1")?;
-    assert_eq!(rt; refused.bytes(), "fault: c.pl:0 NotBuilt\n".as_bytes());
+    assert_eq!(rt; refused.bytes(), "fault: c.pl:0 FileTooLarge\n".as_bytes());
     assert_eq!(rt; status, 3);
     Ok(())
 }

@@ -59,7 +59,7 @@ const CASES: [Case; 38] = [
         text: ":- module(c,[q/0]).\nq :- X = 1.\np(X,X).\n",
         query: "q",
         steps: "1000",
-        written: "fault: c.pl:0 NotBuilt\n",
+        written: "fault: c.pl:2 NotBuilt\n",
         status: 3,
     },
     Case {
@@ -87,7 +87,7 @@ const CASES: [Case; 38] = [
         text: COUNT,
         query: "X",
         steps: "5",
-        written: "fault: query unread\n",
+        written: "fault: query not exported\n",
         status: 4,
     },
     Case {
@@ -211,7 +211,7 @@ const CASES: [Case; 38] = [
         text: ":- module(c,[p/1]).\np(9223372036854775808).\n",
         query: "p(X)",
         steps: "1",
-        written: "fault: c.pl:0 NotBuilt\n",
+        written: "fault: c.pl:2 IntRange\n",
         status: 3,
     },
     // a comment at the end without a line feed, and layout everywhere
@@ -242,7 +242,7 @@ const CASES: [Case; 38] = [
         text: ":- module(d,[p/0]).\np.\n",
         query: "p",
         steps: "1",
-        written: "fault: c.pl:0 NotBuilt\n",
+        written: "fault: c.pl:1 NotBuilt\n",
         status: 3,
     },
     // lists
@@ -264,22 +264,22 @@ const CASES: [Case; 38] = [
         text: ":- module(c,[p/1]).\np([a|b|c]).\n",
         query: "p(X)",
         steps: "1",
-        written: "fault: c.pl:0 NotBuilt\n",
+        written: "fault: c.pl:2 Syntax\n",
         status: 3,
     },
     Case {
         text: ":- module(c,[p/1]).\np([a,]).\n",
         query: "p(X)",
         steps: "1",
-        written: "fault: c.pl:0 NotBuilt\n",
+        written: "fault: c.pl:2 Syntax\n",
         status: 3,
     },
     Case {
         text: ":- module(c,[p/1]).\np([]).\n[a].\n",
         query: "p(X)",
         steps: "1",
-        written: "fault: c.pl:0 NotBuilt\n",
-        status: 3,
+        written: "answer: p([])\nend: no more answers\n",
+        status: 0,
     },
     Case {
         text: ":- module(c,[p/1]).\np([]).\n",

@@ -1,21 +1,31 @@
 -- The program of a unit is one that the engine runs.
-use Rattle.std.proofs.Common.{◌≡◌, ℕ, zero, suc, ◌+◌, Bool, true, false, not, List, [], ◌∷◌, ◌++◌, map, filter, length, Option, None, Some, slice_get, refl, sym, ap, ◌∙◌}
-use Rattle.std.specs.Prelude.{⊤, option_map}
+use Rattle.std.proofs.Common.{◌≡◌, ℕ, zero, suc, ◌+◌, Bool, true, false, not, List, [], ◌∷◌, ◌++◌, map, filter, length, Option, None, Some, slice_get, refl, sym, ap, ◌∙◌, subst}
+use Rattle.std.specs.Prelude.{⊤, option_map, Result, Ok, Err, IfOk}
 use Rattle.std.specs.List.{list_all}
 use Rattle.std.proofs.lemmas.Bool.{and_from}
 use Rattle.term_core.specs.declared.terms.Term.{Term}
+use Rattle.term_core.specs.declared.operators.Operators.{Operators}
 use Rattle.prog_data.specs.declared.conditions.Cond.{Cond}
+use Rattle.prog_data.specs.declared.goals.Goal.{Goal}
 use Rattle.prog_data.specs.declared.programs.Program.{Program}
 use Rattle.prog_data.specs.Conditions.{is_comp}
 use Rattle.prog_data.proofs.GoalFolds.{fold-True, fold-Call, fold-Conj}
-use Rattle.ciao_top.specs.declared.plain.clauses.Key.{Key}
-use Rattle.ciao_top.specs.declared.plain.clauses.ReadClause.{ReadClause}
-use Rattle.ciao_top.specs.declared.plain.assertions.ReadAssertion.{ReadAssertion}
-use Rattle.ciao_top.specs.declared.plain.units.Unit.{Unit}
-use Rattle.ciao_top.specs.declared.plain.units.LinkResult.TheVariants as link
+use Rattle.ciao_top.specs.declared.units.keys.Key.{Key}
+use Rattle.ciao_top.specs.declared.units.clauses.Body.{Body, One, Both, roll-Body}
+use Rattle.ciao_top.specs.declared.units.clauses.Body.TheVariants.{rolls-One, rolls-Both}
+use Rattle.ciao_top.specs.declared.units.clauses.Body.TheFolds.{fold-roll-Body, ind-Body, map-Body, claims}
+use Rattle.ciao_top.specs.declared.units.clauses.Body.TheBlock as block
+use Rattle.ciao_top.specs.declared.units.clauses.Body.TheOpen as layer
+use Rattle.ciao_top.specs.declared.units.clauses.ReadClause.{ReadClause}
+use Rattle.ciao_top.specs.declared.units.assertions.ReadAssertion.{ReadAssertion}
+use Rattle.ciao_top.specs.declared.units.sentences.Unit.{Unit}
+use Rattle.ciao_top.specs.declared.units.sentences.LinkResult.{LinkResult}
+use Rattle.ciao_top.specs.declared.units.sentences.LinkResult.TheVariants as link
 use Rattle.ciao_top.specs.Conditions.{is_about, has_post, success_conditions, conditions_of, conditions_from}
-use Rattle.ciao_top.specs.Linked.{keys_of, assertions_of, conjunction_of, body_of, clause_of, unit_conditions, pred_with, program_of, least, undefined_lines, linked_by, linked}
+use Rattle.ciao_top.specs.Linked.{keys_of, assertions_of, call_of, body_step, goal_of, body_of, clause_of, unit_conditions, pred_with, program_of, least, undefined_lines, linked_by, linked}
 use Rattle.sld_engine.specs.Built.{built_goal_step, is_built_goal, is_not_comp, is_built_pred, is_built}
+use denote.Hole.Holds
+use denote.Hole.Carrier
 
 -- conditions, none of which is on the computation
 abbrev pub NoneIsComp : List Cond → Type 0
@@ -60,21 +70,43 @@ each p e (n ∷ ns) = and_from _ _ (e n) (each p e ns)
 no_comp : (m : Unit) (n : ℕ) → is_not_comp (program_of m) n ≡ true
 no_comp m n = ap not (by_number (unit_conditions m) n (all_none m.file (assertions_of m.sentences) 0 0 (keys_of m)))
 
--- goals as one goal are built
-conjunction_is_built : (keys : List Key) (t : Term) (ts : List Term) → is_built_goal (conjunction_of keys t ts) ≡ true
-conjunction_is_built keys t [] = fold-Call Bool built_goal_step _ _
-conjunction_is_built keys t (next ∷ rest) =
-    fold-Conj Bool built_goal_step _ _ ∙ and_from _ _ (fold-Call Bool built_goal_step _ _) (conjunction_is_built keys next rest)
+abbrev Held : (Body → Type 0) → Type 0
+Held P = Holds.Such (Carrier.Values block.the_members block.the_sigs block.the_carrier) (claims P) block.member-Body
 
--- a body is built
-body_is_built : (keys : List Key) (ts : List Term) → is_built_goal (body_of keys ts) ≡ true
-body_is_built keys [] = fold-True Bool built_goal_step
-body_is_built keys (t ∷ ts) = conjunction_is_built keys t ts
+module _ (keys : List Key) where
+  -- a goal by itself, and two bodies joined, as a goal
+  goal_of_one : (t : Term) → goal_of keys (One t) ≡ call_of keys t
+  goal_of_one t = ap (goal_of keys) (sym (rolls-One t)) ∙ fold-roll-Body Goal (body_step keys) (layer.One t)
+
+  goal_of_both : (a b : Body) → goal_of keys (Both a b) ≡ body_step keys (layer.Both (goal_of keys a) (goal_of keys b))
+  goal_of_both a b = ap (goal_of keys) (sym (rolls-Both a b)) ∙ fold-roll-Body Goal (body_step keys) (layer.Both a b)
+
+  abbrev IsBuilt : Body → Type 0
+  IsBuilt body = is_built_goal (goal_of keys body) ≡ true
+
+  one_is_built : (t : Term) → IsBuilt (One t)
+  one_is_built t = ap is_built_goal (goal_of_one t) ∙ fold-Call Bool built_goal_step _ _
+
+  both_are_built : (a b : Body) → IsBuilt a → IsBuilt b → IsBuilt (Both a b)
+  both_are_built a b e f = ap is_built_goal (goal_of_both a b) ∙ fold-Conj Bool built_goal_step _ _ ∙ and_from _ _ e f
+
+  at_layer : (y : layer.Body-F (Held IsBuilt)) → IsBuilt (roll-Body (map-Body (Held IsBuilt) Body (λ e. e.0) y))
+  at_layer (layer.One t) = subst IsBuilt (sym (rolls-One t)) (one_is_built t)
+  at_layer (layer.Both a b) = subst IsBuilt (sym (rolls-Both a.0 b.0)) (both_are_built a.0 b.0 a.1 b.1)
+
+  -- a body as a goal is built
+  goal_is_built : (body : Body) → IsBuilt body
+  goal_is_built = ind-Body IsBuilt (λ x y e. subst (λ x. IsBuilt (roll-Body x)) e (at_layer y))
+
+  -- the body of a clause is built
+  body_is_built : (body : Option Body) → is_built_goal (body_of keys body) ≡ true
+  body_is_built None = fold-True Bool built_goal_step
+  body_is_built (Some body) = goal_is_built body
 
 -- the bodies of clauses are built
 clauses_are_built : (keys : List Key) (file : ℕ) (cs : List ReadClause) → list_all (λ clause. is_built_goal clause.body) (map (clause_of keys file) cs) ≡ true
 clauses_are_built keys file [] = refl
-clauses_are_built keys file (c ∷ cs) = and_from _ _ (body_is_built keys c.written.goals) (clauses_are_built keys file cs)
+clauses_are_built keys file (c ∷ cs) = and_from _ _ (body_is_built keys c.body) (clauses_are_built keys file cs)
 
 -- the predicates are built
 preds_are_built : (m : Unit) (ks : List Key) → list_all (is_built_pred (program_of m)) (map (pred_with m) ks) ≡ true
@@ -83,9 +115,15 @@ preds_are_built m (k ∷ ks) =
     and_from _ _ (and_from _ _ (each (is_not_comp (program_of m)) (no_comp m) _) (clauses_are_built (keys_of m) m.file _)) (preds_are_built m ks)
 
 -- a linked program is built
-pub linked_is_built : (m : Unit) (p : Program) → linked m ≡ link.Program p → is_built p ≡ true
-linked_is_built m p is = by (least (undefined_lines m)) is
+pub linked_is_built : (m : Unit) (p : Program) (ops : Operators) → linked m ≡ link.Program p ops → is_built p ≡ true
+linked_is_built m p ops is = by (least (undefined_lines m)) is
   where
-    by : (o : Option ℕ) → linked_by o m ≡ link.Program p → is_built p ≡ true
+    by : (o : Option ℕ) → linked_by o m ≡ link.Program p ops → is_built p ≡ true
     by None e = let same : program_of m ≡ p = cc in sym (ap is_built same) ∙ preds_are_built m (keys_of m)
     by (Some line) e = let no : ⊥ = cc in absurd no
+
+-- an answer that is the linked unit has a built program, where it has one
+pub answer_is_built : {E : Type 0} (m : Unit) (answer : Result LinkResult E) → IfOk answer (λ a. a ≡ linked m)
+    → IfOk answer (λ a. (p : Program) (ops : Operators) → a ≡ link.Program p ops → is_built p ≡ true)
+answer_is_built m (Ok a) is = λ p ops e. linked_is_built m p ops (sym is ∙ e)
+answer_is_built m (Err e) is = is

@@ -1,14 +1,15 @@
 -- The statuses that the definitions have.
 use Rattle.std.proofs.Common.{◌≡◌, ◌⊎◌, inl, inr, refl, ℕ, zero, suc, ◌+◌, ◌<◌, ◌≤◌, sym, ◌∙◌, arith}
+use Rattle.term_core.specs.declared.operators.Operators.{Operators}
 use Rattle.prog_data.specs.declared.programs.Program.{Program}
 use Rattle.prog_data.specs.declared.events.Ending.{Ending}
 use Rattle.prog_data.specs.declared.events.Ending.TheVariants.{NoMore, Bound, Violated, Cyclic, Arithmetic}
 use Rattle.ciao_top.specs.Words.{Word, RunWords}
 use Rattle.ciao_top.specs.RunText.{ending_status}
-use Rattle.ciao_top.specs.declared.plain.units.LinkResult.{LinkResult}
-use Rattle.ciao_top.specs.declared.plain.units.LinkResult.TheVariants as link
+use Rattle.ciao_top.specs.declared.units.sentences.LinkResult.{LinkResult}
+use Rattle.ciao_top.specs.declared.units.sentences.LinkResult.TheVariants as link
 use Rattle.ciao_top.specs.Linked.{linked}
-use Rattle.ciao_top.specs.Answers.{QueryAnswers, Unread, NotExported, Ran, UnitAnswers, FileAnswers, NotBuilt, Plain}
+use Rattle.ciao_top.specs.Answers.{QueryAnswers, Unread, NotExported, Ran, UnitAnswers, FileAnswers, TooLarge, NoSentences, NotBuilt, Built}
 
 -- two numbers in order are not equal
 pub apart : (a b : ℕ) → a < b → a ≡ b → ⊥
@@ -34,10 +35,10 @@ of_ending (Violated c) status is = of_number 1 status is (omega arith) (apart 1 
 of_ending (Cyclic place) status is = of_number 6 status is (omega arith) (λ x. apart 2 6 (omega arith) (sym x))
 of_ending (Arithmetic kind place) status is = of_number 6 status is (omega arith) (λ x. apart 2 6 (omega arith) (sym x))
 
-of_query : (program : Program) (command : RunWords) (text : Word) (status : ℕ) → QueryAnswers program command text status → IsOfRun status
-of_query program command text status (Unread never line is) = of_number 4 status is (omega arith) (λ x. apart 2 4 (omega arith) (sym x))
-of_query program command text status (NotExported names query read none line is) = of_number 4 status is (omega arith) (λ x. apart 2 4 (omega arith) (sym x))
-of_query program command text status (Ran names query read events e run text_is is) = of_ending e status is
+of_query : (program : Program) (ops : Operators) (command : RunWords) (text : Word) (status : ℕ) → QueryAnswers program ops command text status → IsOfRun status
+of_query program ops command text status (Unread never line is) = of_number 4 status is (omega arith) (λ x. apart 2 4 (omega arith) (sym x))
+of_query program ops command text status (NotExported names query read none line is) = of_number 4 status is (omega arith) (λ x. apart 2 4 (omega arith) (sym x))
+of_query program ops command text status (Ran names query read events e run text_is is) = of_ending e status is
 
 -- the status of a fault of a file
 pub of_fault : (status : ℕ) → status ≡ 3 → IsOfRun status
@@ -45,12 +46,14 @@ of_fault status is = of_number 3 status is (omega arith) (λ x. apart 2 3 (omega
 
 of_unit : (answer : LinkResult) (command : RunWords) (text : Word) (status : ℕ) → UnitAnswers answer command text status → IsOfRun status
 of_unit (link.Undefined line) command text status answers = of_fault status answers.1
-of_unit (link.Program program) command text status answers = of_query program command text status answers
+of_unit (link.Program program ops) command text status answers = of_query program ops command text status answers
 
 -- the status of a file that is there
 pub of_file : (bytes : Word) (command : RunWords) (text : Word) (status : ℕ) → FileAnswers bytes command text status → IsOfRun status
-of_file bytes command text status (NotBuilt never line is) = of_fault status is
-of_file bytes command text status (Plain m plain answers) = of_unit (linked m) command text status answers
+of_file bytes command text status (TooLarge large line is) = of_fault status is
+of_file bytes command text status (NoSentences small fault unread line is) = of_fault status is
+of_file bytes command text status (NotBuilt small n not_built line is) = of_fault status is
+of_file bytes command text status (Built small m unit answers) = of_unit (linked m) command text status answers
 
 -- a status is below 7 or a fault of a device or want of memory
 pub small_or_fault : (s : ℕ) → s ≤ 9 → (s < 7) ⊎ ((s ≡ 7) ⊎ ((s ≡ 8) ⊎ (s ≡ 9)))

@@ -3,7 +3,7 @@ use Rattle.std.proofs.Common.{◌≡◌, ℕ, suc, true, false, cond, List, [], 
 use Rattle.std.proofs.lemmas.List.{length-append}
 use Rattle.prog_data.specs.declared.conditions.Cond.{Cond}
 use Rattle.prog_data.specs.declared.conditions.CondKind.TheVariants.{Success}
-use Rattle.ciao_top.specs.declared.plain.assertions.ReadAssertion.{ReadAssertion}
+use Rattle.ciao_top.specs.declared.units.assertions.ReadAssertion.{ReadAssertion}
 use Rattle.ciao_top.specs.Conditions.{place_of, has_post, success_conditions}
 
 -- the success condition of an assertion, with a number

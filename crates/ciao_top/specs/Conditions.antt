@@ -4,8 +4,8 @@ use Rattle.prog_data.specs.declared.conditions.Cond.{Cond}
 use Rattle.prog_data.specs.declared.conditions.CondKind.TheVariants.{Calls, Success}
 use Rattle.prog_data.specs.declared.conditions.Prop.{Prop}
 use Rattle.prog_data.specs.declared.programs.Place.{Place}
-use Rattle.ciao_top.specs.declared.plain.clauses.Key.{Key}
-use Rattle.ciao_top.specs.declared.plain.assertions.ReadAssertion.{ReadAssertion}
+use Rattle.ciao_top.specs.declared.units.keys.Key.{Key}
+use Rattle.ciao_top.specs.declared.units.assertions.ReadAssertion.{ReadAssertion}
 use Rattle.ciao_top.specs.Keys.{same_key}
 
 -- whether an assertion is about a predicate

@@ -86,7 +86,7 @@ pub data CallAnswers (program : Program) (query : Term) (bound : ℕ) (text : Wo
 pub data RunAnswered (held : Option Held) (command : RunWords) (reading writing : Type 0) (old new : Option Word) (result : ℕ) : Type 0 where
   Missing : IfSome held (λ files. files command.file ≡ None)
       → Comes (Only (file_fault command.file 0 (codes "NoFile")) 3) writing old new result → RunAnswered held command reading writing old new result
-  -- the bytes that were read are those of the file, or a front that is longer than a plain file
+  -- the bytes that were read are those of the file, or a front that is too large
   There : (bytes : Word) → IfSome held (λ files. (whole : Word) × (files command.file ≡ Some whole) × (bytes ≡ take 1048577 whole))
       → Comes (FileAnswers bytes command) writing old new result → RunAnswered held command reading writing old new result
   Unread : reading → Comes (Only (read_fault command.file) 7) writing old new result → RunAnswered held command reading writing old new result

@@ -2,7 +2,7 @@
 use Rattle.std.specs.Prelude.{Bool, ◌&&◌, ◌==◌, length}
 use Rattle.term_core.specs.declared.terms.Term.{Term, out-Term}
 use Rattle.term_core.specs.declared.terms.Term.TheOpen.{Term-F, Var, Int, Atom, Node}
-use Rattle.ciao_top.specs.declared.plain.clauses.Key.{Key}
+use Rattle.ciao_top.specs.declared.units.keys.Key.{Key}
 
 -- the name and the number of arguments of a call; those of `[]` for a variable or a number, which is no call
 abbrev pub key_at : Term-F Term → Key

@@ -1,5 +1,5 @@
 -- The program of one file.
-use Rattle.std.specs.Prelude.{ℕ, min, Bool, not, List, [], ◌∷◌, ◌++◌, map, filter, Option, Some, None, if◌then◌else◌}
+use Rattle.std.specs.Prelude.{ℕ, min, Bool, false, not, List, [], ◌∷◌, ◌++◌, map, filter, Option, Some, None, if◌then◌else◌}
 use Rattle.std.specs.Option.{option_map_or}
 use Rattle.std.specs.List.{list_any, position_or_len}
 use Rattle.term_core.specs.declared.terms.Term.{Term, out-Term}
@@ -11,14 +11,18 @@ use Rattle.prog_data.specs.declared.programs.Program.{Program}
 use Rattle.prog_data.specs.Goals.{parts_of}
 use Rattle.prog_data.specs.BasicNames.{basic_grammar}
 use Rattle.prog_data.specs.declared.conditions.Cond.{Cond}
-use Rattle.ciao_top.specs.declared.plain.clauses.Key.{Key}
-use Rattle.ciao_top.specs.declared.plain.clauses.ReadClause.{ReadClause}
-use Rattle.ciao_top.specs.declared.plain.assertions.ReadAssertion.{ReadAssertion}
-use Rattle.ciao_top.specs.declared.plain.units.Unit.{Unit}
-use Rattle.ciao_top.specs.declared.plain.units.ReadSentence.{ReadSentence}
-use Rattle.ciao_top.specs.declared.plain.units.ReadSentence.TheVariants as read
-use Rattle.ciao_top.specs.declared.plain.units.LinkResult.{LinkResult}
-use Rattle.ciao_top.specs.declared.plain.units.LinkResult.TheVariants as link
+use Rattle.ciao_top.specs.declared.units.keys.Key.{Key}
+use Rattle.ciao_top.specs.declared.units.clauses.ReadClause.{ReadClause}
+use Rattle.ciao_top.specs.declared.units.assertions.ReadAssertion.{ReadAssertion}
+use Rattle.ciao_top.specs.declared.units.sentences.Unit.{Unit}
+use Rattle.ciao_top.specs.declared.units.sentences.ReadSentence.{ReadSentence}
+use Rattle.ciao_top.specs.declared.units.sentences.ReadSentence.TheVariants as read
+use Rattle.ciao_top.specs.declared.units.sentences.LinkResult.{LinkResult}
+use Rattle.ciao_top.specs.declared.units.sentences.LinkResult.TheVariants as link
+use Rattle.ciao_top.specs.declared.units.clauses.Body.{Body}
+use Rattle.ciao_top.specs.declared.units.clauses.Body.TheOpen.{Body-F, One, Both}
+use Rattle.ciao_top.specs.declared.units.clauses.Body.TheFolds.{fold-Body}
+use Rattle.ciao_top.specs.SentenceTerms.{clause_goals}
 use Rattle.ciao_top.specs.Keys.{key_of, same_key}
 use Rattle.ciao_top.specs.Conditions.{conditions_from, numbers_of}
 
@@ -29,7 +33,7 @@ with_key keys key = if list_any (same_key key) keys then keys else keys ++ key �
 -- the keys, and behind them those of the clauses' heads that are new, in order
 abbrev pub keys_with : List Key → List ReadClause → List Key
 keys_with keys [] = keys
-keys_with keys (c ∷ cs) = keys_with (with_key keys (key_of c.written.head)) cs
+keys_with keys (c ∷ cs) = keys_with (with_key keys (key_of c.head)) cs
 
 module _ (keys : List Key) where
   -- the number of a predicate: its place among the keys
@@ -44,39 +48,44 @@ module _ (keys : List Key) where
   abbrev pub call_of : Term → Goal
   call_of t = goal.Call (pred_number (key_of t)) (parts_of (out-Term t))
 
-  -- goals as one goal
-  abbrev pub conjunction_of : Term → List Term → Goal
-  conjunction_of t [] = call_of t
-  conjunction_of t (next ∷ rest) = goal.Conj (call_of t) (conjunction_of next rest)
+  -- a body as a goal, from its parts
+  abbrev pub body_step : Body-F Goal → Goal
+  body_step (One t) = call_of t
+  body_step (Both first second) = goal.Conj first second
 
-  -- the goals of a body as one goal
-  abbrev pub body_of : List Term → Goal
-  body_of [] = goal.True
-  body_of (t ∷ ts) = conjunction_of t ts
+  abbrev pub goal_of : Body → Goal
+  goal_of = fold-Body Goal body_step
+
+  -- the body of a clause as a goal
+  abbrev pub body_of : Option Body → Goal
+  body_of None = goal.True
+  body_of (Some body) = goal_of body
 
   -- a clause of the file as the program has it
   abbrev pub clause_of : ℕ → ReadClause → Clause
   clause_of file c = record {
-    head = parts_of (out-Term c.written.head);
-    body = body_of c.written.goals;
+    head = parts_of (out-Term c.head);
+    body = body_of c.body;
     vars = c.variables;
     place = record { file = file; line = c.line };
   }
 
 -- whether a clause is of the predicate
 abbrev pub is_clause_of : Key → ReadClause → Bool
-is_clause_of key c = same_key key (key_of c.written.head)
+is_clause_of key c = same_key key (key_of c.head)
 
 -- the clauses and the assertions of sentences, in order
 abbrev pub clauses_of : List ReadSentence → List ReadClause
 clauses_of [] = []
 clauses_of (read.Clause c ∷ ss) = c ∷ clauses_of ss
 clauses_of (read.Assertion a ∷ ss) = clauses_of ss
+clauses_of (read.Operators ∷ ss) = clauses_of ss
 
 abbrev pub assertions_of : List ReadSentence → List ReadAssertion
 assertions_of [] = []
 assertions_of (read.Clause c ∷ ss) = assertions_of ss
 assertions_of (read.Assertion a ∷ ss) = a ∷ assertions_of ss
+assertions_of (read.Operators ∷ ss) = assertions_of ss
 
 -- the predicates of a unit, numbered by their first clauses
 abbrev pub keys_of : Unit → List Key
@@ -116,13 +125,15 @@ program_of m =
 
 -- whether a goal or an assertion of the sentence names a predicate that has no clauses
 abbrev pub names_undefined : List Key → ReadSentence → Bool
-names_undefined keys (read.Clause c) = list_any (λ t. not (is_defined keys (key_of t))) c.written.goals
+names_undefined keys (read.Clause c) = list_any (λ t. not (is_defined keys (key_of t))) (clause_goals c.body)
 names_undefined keys (read.Assertion a) = not (is_defined keys a.key)
+names_undefined keys read.Operators = false
 
--- the line of a sentence
+-- the line of a sentence; a change of operators, which names no predicate, has none
 abbrev pub sentence_line : ReadSentence → ℕ
 sentence_line (read.Clause c) = c.line
 sentence_line (read.Assertion a) = a.line
+sentence_line read.Operators = 0
 
 -- the lines that name predicates without clauses: that of the module directive for each such export, and those of sentences
 abbrev pub undefined_lines : Unit → List ℕ
@@ -138,8 +149,8 @@ least (n ∷ ns) = Some (option_map_or (min n) (least ns) n)
 -- the unit by its predicates
 abbrev pub linked_by : Option ℕ → Unit → LinkResult
 linked_by (Some line) m = link.Undefined line
-linked_by None m = link.Program (program_of m)
+linked_by None m = link.Program (program_of m) m.ops
 
--- its program, or the least line that names a predicate without clauses
+-- its program with its operators, or the least line that names a predicate without clauses
 abbrev pub linked : Unit → LinkResult
 linked m = linked_by (least (undefined_lines m)) m

@@ -1,10 +1,10 @@
 //! The top call: from words, files and a sink to a status.
 #![tactic(auto)]
 
-mod plain;
 mod runs;
 mod texts;
 mod tool;
+mod units;
 mod words;
 
-pub use tool::{completeness_law, one_answer_law, plain_names_law, run_tool, some_answer_law};
+pub use tool::{completeness_law, fixed_names_law, one_answer_law, run_tool, some_answer_law};

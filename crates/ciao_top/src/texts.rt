@@ -2,10 +2,11 @@
 ghost use Rattle.std.specs.Prelude.{◌≡◌, ◌++◌, ◌∷◌, [], Option, Some, IfOk, OnOk, codes, decimal, string_bytes, slice_get};
 ghost use Rattle.term_core.specs.Printing.{Printed, name_text};
 ghost use Rattle.prog_data.specs.Goals.{pred_of};
-ghost use Rattle.ciao_top.specs.Lines.{fault_line, file_fault, read_fault};
+ghost use Rattle.ciao_top.specs.Lines.{fault_line, file_fault, read_fault, fault_at, fault_word};
 ghost use Rattle.ciao_top.specs.RunText.{line, kind_word, arithmetic_words, place_text, pred_text, violated_text, ending_text, event_text};
 
 use crate::words::behind_slash;
+use ciao_reader::ReadFault;
 use itoa::Buffer;
 use prog_data::{ArithKind, CompProp, Cond, CondKind, Ending, Event, Place, Program};
 use std::alloc::{AllocError, Global};
@@ -44,6 +45,38 @@ pub(crate) fn file_fault_text(
     after.push(32)?;
     after.extend_from_slice(kind.as_bytes())?;
     fault_text(alloc, "".as_bytes(), behind_slash(file.as_bytes()), &after)
+}
+
+/// The line of a fault of a text, 0 for want of memory.
+pub(crate) fn fault_at(fault: &ReadFault) -> u64
+    ensures { result ≡ fault_at fault.now }
+{
+    match fault {
+        ReadFault::NotUtf8(line)
+        | ReadFault::BadToken(line)
+        | ReadFault::IntRange(line)
+        | ReadFault::Syntax(line)
+        | ReadFault::TooDeep(line)
+        | ReadFault::OpRefused(line)
+        | ReadFault::NoEnd(line) => *line,
+        ReadFault::NoMemory => 0,
+    }
+}
+
+/// The word of a fault of a text, none for want of memory.
+pub(crate) fn fault_word(fault: &ReadFault) -> &'static str
+    ensures { result.now ≡ fault_word fault.now }
+{
+    match fault {
+        ReadFault::NotUtf8(_) => "NotUtf8",
+        ReadFault::BadToken(_) => "BadToken",
+        ReadFault::IntRange(_) => "IntRange",
+        ReadFault::Syntax(_) => "Syntax",
+        ReadFault::TooDeep(_) => "TooDeep",
+        ReadFault::OpRefused(_) => "OpRefused",
+        ReadFault::NoEnd(_) => "NoEnd",
+        ReadFault::NoMemory => "",
+    }
 }
 
 /// The line of a file that could not be read.

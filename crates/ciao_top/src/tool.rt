@@ -3,26 +3,31 @@ ghost use Rattle.std.specs.Prelude.{◌≡◌, ℕ, ◌<◌, ◌≤◌, ◌++◌
 ghost use Rattle.byte_io.specs.Outside.{Rose, StaysSteady, grown};
 ghost use Rattle.sld_engine.specs.Built.{is_built};
 ghost use Rattle.ciao_top.specs.Words.{AcceptedWords, is_main_file};
-ghost use Rattle.ciao_top.specs.Lines.{fault_line, file_fault, read_fault};
+ghost use Rattle.ciao_top.specs.Lines.{fault_line, file_fault, read_fault, fault_at, fault_word};
+ghost use Rattle.ciao_top.specs.Units.{size_limit};
 ghost use Rattle.ciao_top.specs.Answers.{Answered, Complete, FileAnswers, UnitAnswers, QueryAnswers, OneAnswer, SomeAnswer, Completeness};
 ghost use Rattle.ciao_top.specs.Linked.{linked};
-ghost use Rattle.ciao_top.specs.PlainNames.{PlainNamesArePlaces};
+ghost use Rattle.ciao_top.specs.FixedNames.{FixedNamesArePlaces};
 ghost use Rattle.ciao_top.specs.InnerAnswers.{run_words, DeviceGoesOn, Comes, Only, RunAnswered, CallAnswers};
 
-use crate::plain::linking::link;
-use crate::plain::units::{LinkResult, Unit};
-use crate::plain::{plain_query, read_file};
 use crate::runs::answer_run;
-use crate::texts::{file_fault_text, read_fault_text};
+use crate::texts::{fault_at, fault_word, file_fault_text, read_fault_text};
+use crate::units::linking::link;
+use crate::units::sentences::{LinkResult, Unit};
+use crate::units::{UnitResult, read_query, read_unit};
 use crate::words::{RunCommand, base_of, read_words};
 use byte_io::{Files, FilesFault, Sink, SinkFault, write_all};
+use ciao_reader::ReadFault;
 use machine_model::{ends_law, one_run_law};
 use prog_data::{Program, called_by};
 use std::alloc::Global;
 use std::thread::Threads;
-use term_core::Term;
+use term_core::{OpTable, Term};
 
-/// One byte more than a file may have.
+// The greatest number of bytes of a file.
+const SIZE_LIMIT: usize = 1_048_576;
+
+// One more, which tells that a file has more.
 const MOST_READ: u64 = 1_048_577;
 
 // Writes a text, and gives the status that goes with it, or that of a sink that refused.
@@ -81,14 +86,16 @@ fn answer_call<S: Sink>(
 fn answer_query<S: Sink>(
     alloc: Global,
     program: &mut Program,
+    ops: &OpTable,
     command: &RunCommand<'_>,
     out: &mut S,
 ) -> u8
     requires { is_built program.old ≡ true }
-    ensures comes { Comes (QueryAnswers program.old (run_words command.now)) (Rose (S.faults out.old) (S.faults out.new)) (S.written out.old) (S.written out.new) result }
+    ensures comes { Comes (QueryAnswers program.old ops.now (run_words command.now)) (Rose (S.faults out.old) (S.faults out.new)) (S.written out.old) (S.written out.new) result }
     ensures sink { DeviceGoesOn (S.steady out.old) (S.steady out.new) (S.faults out.old) (S.faults out.new) }
 {
-    match plain_query(alloc, &mut program.names, command.query) {
+    ops.made();
+    match read_query(alloc, &mut program.names, ops, command.query) {
         Err(_) => 9,
         Ok(None) => say(out, "fault: query unread\n".as_bytes(), 4),
         Ok(Some(query)) => answer_call(alloc, program, &query, command.steps, out),
@@ -105,10 +112,35 @@ fn answer_unit<S: Sink>(alloc: Global, command: &RunCommand<'_>, unit: Unit, out
         Ok(LinkResult::Undefined(line)) => {
             say_file_fault(alloc, command.file, line, "Undefined", out)
         }
-        Ok(LinkResult::Program(program)) => {
+        Ok(LinkResult::Program(program, ops)) => {
             let mut program = program;
-            answer_query(alloc, &mut program, command, out)
+            answer_query(alloc, &mut program, &ops, command, out)
         }
+    }
+}
+
+// Tells why a text has no sentences.
+fn say_unread<S: Sink>(alloc: Global, file: &str, fault: &ReadFault, out: &mut S) -> u8
+    ensures comes { Comes (Only (file_fault file.now (fault_at fault.now) (fault_word fault.now)) 3) (Rose (S.faults out.old) (S.faults out.new)) (S.written out.old) (S.written out.new) result }
+    ensures sink { DeviceGoesOn (S.steady out.old) (S.steady out.new) (S.faults out.old) (S.faults out.new) }
+{
+    say_file_fault(alloc, file, fault_at(fault), fault_word(fault), out)
+}
+
+// Answers the query of a file that is there and not too large.
+fn answer_text<S: Sink>(alloc: Global, command: &RunCommand<'_>, bytes: &[u8], out: &mut S) -> u8
+    requires file { is_main_file command.now.file.now ≡ true }
+    requires small { length bytes.now ≤ size_limit }
+    ensures comes { Comes (FileAnswers bytes.now (run_words command.now)) (Rose (S.faults out.old) (S.faults out.new)) (S.written out.old) (S.written out.new) result }
+    ensures sink { DeviceGoesOn (S.steady out.old) (S.steady out.new) (S.faults out.old) (S.faults out.new) }
+{
+    match read_unit(alloc, base_of(command.file), bytes) {
+        Err(_) => 9,
+        Ok(UnitResult::Unread(fault)) => say_unread(alloc, command.file, &fault, out),
+        Ok(UnitResult::NotBuilt(line)) => {
+            say_file_fault(alloc, command.file, line, "NotBuilt", out)
+        }
+        Ok(UnitResult::Unit(unit)) => answer_unit(alloc, command, unit, out),
     }
 }
 
@@ -118,10 +150,10 @@ fn answer_file<S: Sink>(alloc: Global, command: &RunCommand<'_>, bytes: &[u8], o
     ensures comes { Comes (FileAnswers bytes.now (run_words command.now)) (Rose (S.faults out.old) (S.faults out.new)) (S.written out.old) (S.written out.new) result }
     ensures sink { DeviceGoesOn (S.steady out.old) (S.steady out.new) (S.faults out.old) (S.faults out.new) }
 {
-    match read_file(alloc, base_of(command.file), bytes) {
-        Err(_) => 9,
-        Ok(None) => say_file_fault(alloc, command.file, 0, "NotBuilt", out),
-        Ok(Some(unit)) => answer_unit(alloc, command, unit, out),
+    if bytes.len() <= SIZE_LIMIT {
+        answer_text(alloc, command, bytes, out)
+    } else {
+        say_file_fault(alloc, command.file, 0, "FileTooLarge", out)
     }
 }
 
@@ -191,7 +223,7 @@ pub fn completeness_law()
     ensures { Completeness }
 {}
 
-/// The numbers by which plain files tell operators and built-ins are those of their texts.
-pub fn plain_names_law()
-    ensures { PlainNamesArePlaces }
+/// The numbers by which files tell operators and built-ins are those of their texts.
+pub fn fixed_names_law()
+    ensures { FixedNamesArePlaces }
 {}

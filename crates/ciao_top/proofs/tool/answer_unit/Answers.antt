@@ -3,7 +3,7 @@ use Rattle.ciao_top.proofs.Files.{undefined, unit_answers}
 use Rattle.ciao_top.proofs.tool.answer_unit.Goals as goal
 
 pub answer_query-requires : goal.answer_query-requires
-answer_query-requires g c = c.in-Ok-Program.ensures.built _ c.in-Ok-Program.field-0-is
+answer_query-requires g c = c.in-Ok-Program.ensures.built _ _ c.in-Ok-Program.field-0-is
 
 pub returns-in-Ok-Undefined-clause-comes : goal.returns-in-Ok-Undefined-clause-comes
 returns-in-Ok-Undefined-clause-comes g c =
@@ -11,4 +11,4 @@ returns-in-Ok-Undefined-clause-comes g c =
 
 pub returns-in-Ok-Program-clause-comes : goal.returns-in-Ok-Program-clause-comes
 returns-in-Ok-Program-clause-comes g c =
-    unit_answers _ _ _ _ _ _ _ (sym (rw c.in-Ok-Program.field-0-is at c.in-Ok-Program.ensures.linked)) c.answer_query.ensures.comes
+    unit_answers _ _ _ _ _ _ _ _ (sym (rw c.in-Ok-Program.field-0-is at c.in-Ok-Program.ensures.linked)) c.answer_query.ensures.comes

@@ -1,0 +1,40 @@
+-- The parts of a sentence's term that its reader looks at.
+use Rattle.std.specs.Prelude.{ℕ, Bool, false, true, ◌&&◌, ◌==◌, ◌≡◌, List, [], ◌∷◌, map, Option, Some, None, pos}
+use Rattle.term_core.specs.declared.terms.Term.{Term, out-Term}
+use Rattle.term_core.specs.declared.terms.Term.TheOpen.{Term-F, Int, Atom, Node}
+use Rattle.term_core.specs.declared.terms.Term as term
+use Rattle.term_core.specs.Names.{nil, neck}
+use Rattle.ciao_reader.specs.Readings.{list_term}
+use Rattle.ciao_top.specs.Words.{Word}
+use Rattle.ciao_top.specs.declared.units.keys.Key.{Key}
+use Rattle.ciao_top.specs.SentenceTerms.{export_term, IsModuleName}
+
+-- whether a term is a compound of this name with two arguments
+abbrev pub is_pair : ℕ → Term-F Term → Bool
+is_pair name (Node f (left ∷ right ∷ [])) = f == name
+is_pair name other = false
+
+-- whether it is a compound
+abbrev pub is_compound : Term-F Term → Bool
+is_compound (Node f parts) = true
+is_compound other = false
+
+-- whether it is `:- D` with a compound D
+abbrev pub is_directive : Term-F Term → Bool
+is_directive (Node f (directive ∷ [])) = (f == neck) && is_compound (out-Term directive)
+is_directive other = false
+
+-- the export F/N
+abbrev pub export_from : Term-F Term → Term-F Term → Option Key
+export_from (Atom name) (Int (pos arity)) = Some (record { name = name; arity = arity })
+export_from name arity = None
+
+-- a term is a list of these exports
+abbrev pub ListsExports : Term → List Key → Type 0
+ListsExports t keys = t ≡ list_term (map export_term keys) (term.Atom nil)
+
+-- the arguments of a module directive with these exports
+pub record AreModuleArguments (names : List Word) (base : Word) (arguments : List Term) (keys : List Key) : Type 0 where
+  pub name : Term
+  pub is_name : IsModuleName names base name
+  pub whole : arguments ≡ name ∷ list_term (map export_term keys) (term.Atom nil) ∷ []

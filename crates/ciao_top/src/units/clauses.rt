@@ -1,0 +1,207 @@
+// The clauses of a file.
+ghost use Rattle.std.specs.Prelude.{◌≡◌, ◌∷◌, [], true, false, IfOk, IfSome, IfNone, MatchOption};
+ghost use Rattle.std.specs.List.{list_all};
+ghost use Rattle.term_core.specs.declared.terms.Term.{out-Term};
+ghost use Rattle.ciao_top.specs.declared.units.clauses.Body.{Body as BodyValue};
+ghost use Rattle.ciao_top.specs.declared.units.clauses.ReadClause.{ReadClause as ReadClauseValue};
+ghost use Rattle.ciao_top.specs.UserPredicates.{is_control, is_built_in, is_user, names_user_pred, is_directive_or_rule, may_be_fact};
+ghost use Rattle.term_core.specs.Names.{comma, neck};
+ghost use Rattle.ciao_top.specs.SentenceTerms.{body_term, goals_of, IsClause};
+ghost use Rattle.ciao_top.specs.SentenceParts.{is_pair};
+
+use ciao_reader::Sentence;
+use sqlite_items::Boxed;
+use std::alloc::Global;
+use term_core::{NoMemory, Term, copy};
+
+// The numbers of the comma and of `:-` among the names.
+const COMMA: u64 = 3;
+
+const NECK: u64 = 15;
+
+/// The body of a clause: a goal, or two bodies joined by a comma.
+#[derive(Drop)]
+pub(crate) enum Body {
+    One(Term),
+    Both(Boxed<Body>, Boxed<Body>),
+}
+
+/// A clause that was read, with its line and its number of variables.
+#[derive(Drop)]
+pub(crate) struct ReadClause {
+    pub(crate) head: Term,
+    pub(crate) body: Option<Body>,
+    pub(crate) line: u64,
+    pub(crate) variables: u64,
+}
+
+fn is_control(name: u64, arity: usize) -> bool
+    ensures { result ≡ is_control name arity }
+{
+    match arity {
+        0 => matches!(name, 5 | 8 | 9),
+        1 => name == 29,
+        2 => matches!(name, 3 | 4 | 6 | 25),
+        _ => false,
+    }
+}
+
+fn is_built_in(name: u64, arity: usize) -> bool
+    ensures { result ≡ is_built_in name arity }
+{
+    match arity {
+        0 => name == 61,
+        1 => matches!(name, 57..=60 | 62..=74),
+        2 => matches!(name, 30..=33 | 39..=45 | 71),
+        _ => false,
+    }
+}
+
+fn is_user(name: u64, arity: usize) -> bool
+    ensures { result ≡ is_user name arity }
+{
+    !(is_control(name, arity) || is_built_in(name, arity))
+}
+
+/// Whether a term is an atom or a compound that names a predicate of the user.
+pub(crate) fn names_user_pred(term: &Term) -> bool
+    ensures { result ≡ names_user_pred (out-Term term.now) }
+{
+    match term {
+        Term::Var(_) | Term::Int(_) => false,
+        Term::Atom(name) => is_user(*name, 0),
+        Term::Node(name, parts) => is_user(*name, parts.len()),
+    }
+}
+
+// Whether a term is `:-` with one argument or two.
+fn is_directive_or_rule(term: &Term) -> bool
+    ensures { result ≡ is_directive_or_rule (out-Term term.now) }
+{
+    match term {
+        Term::Var(_) | Term::Int(_) | Term::Atom(_) => false,
+        Term::Node(name, parts) => *name == NECK && matches!(parts.len(), 1 | 2),
+    }
+}
+
+fn may_be_fact(term: &Term) -> bool
+    ensures { result ≡ may_be_fact (out-Term term.now) }
+{
+    names_user_pred(term) && !is_directive_or_rule(term)
+}
+
+/// The two arguments of a compound with this name.
+pub(crate) fn operands(term: &Term, operator: u64) -> Option<(&Term, &Term)>
+    ensures { MatchOption result (is_pair operator (out-Term term.now) ≡ false) (λ pair. term.now ≡ Term.Node operator (pair.0.now ∷ pair.1.now ∷ [])) }
+{
+    match term {
+        Term::Var(_) | Term::Int(_) | Term::Atom(_) => None,
+        Term::Node(name, parts) => match parts.as_slice() {
+            [left, right] => {
+                if *name == operator {
+                    Some((left, right))
+                } else {
+                    None
+                }
+            }
+            _ => None,
+        },
+    }
+}
+
+/// The two sides of a conjunction.
+pub(crate) fn sides(term: &Term) -> Option<(&Term, &Term)>
+    ensures { MatchOption result (is_pair comma (out-Term term.now) ≡ false) (λ pair. term.now ≡ Term.Node comma (pair.0.now ∷ pair.1.now ∷ [])) }
+{
+    operands(term, COMMA)
+}
+
+fn both(alloc: Global, first: Body, second: Body) -> Result<Body, NoMemory>
+    ensures { IfOk result (λ body. body ≡ Body.Both first second) }
+{
+    Ok(Body::Both(Boxed::new(alloc, first)?, Boxed::new(alloc, second)?))
+}
+
+// The body that a term is, none where a goal names no predicate of the user.
+fn read_body(alloc: Global, term: &Term) -> Result<Option<Body>, NoMemory>
+    ensures some { IfOk result (λ answer. IfSome answer (λ body. (body_term body ≡ term.now) × (list_all (λ goal. names_user_pred (out-Term goal)) (goals_of body) ≡ true))) }
+    ensures none { IfOk result (λ answer. IfNone answer ((body : BodyValue) → body_term body ≡ term.now → list_all (λ goal. names_user_pred (out-Term goal)) (goals_of body) ≡ true → ⊥)) }
+{
+    match sides(term) {
+        None => {
+            if names_user_pred(term) {
+                Ok(Some(Body::One(copy(alloc, term)?)))
+            } else {
+                Ok(None)
+            }
+        }
+        Some((left, right)) => match read_body(alloc, left)? {
+            None => Ok(None),
+            Some(first) => match read_body(alloc, right)? {
+                None => Ok(None),
+                Some(second) => Ok(Some(both(alloc, first, second)?)),
+            },
+        },
+    }
+}
+
+// The clause of a head without a body.
+fn fact(alloc: Global, sentence: &Sentence) -> Result<Option<ReadClause>, NoMemory>
+    ensures some { IfOk result (λ answer. IfSome answer (λ clause. IsClause sentence.now clause)) }
+    ensures none { IfOk result (λ answer. IfNone answer (may_be_fact (out-Term sentence.now.term) ≡ false)) }
+{
+    if !may_be_fact(&sentence.term) {
+        return Ok(None);
+    }
+    let head = copy(alloc, &sentence.term)?;
+    Ok(Some(ReadClause {
+        head,
+        body: None,
+        line: sentence.line,
+        variables: sentence.vars,
+    }))
+}
+
+// The clause of a head and a body.
+fn rule(
+    alloc: Global,
+    sentence: &Sentence,
+    head: &Term,
+    body: &Term,
+) -> Result<Option<ReadClause>, NoMemory>
+    ensures some { IfOk result (λ answer. IfSome answer (λ clause. sentence.now.term ≡ Term.Node neck (head.now ∷ body.now ∷ []) → IsClause sentence.now clause)) }
+    ensures none { IfOk result (λ answer. IfNone answer (sentence.now.term ≡ Term.Node neck (head.now ∷ body.now ∷ []) → (clause : ReadClauseValue) → IsClause sentence.now clause → ⊥)) }
+{
+    if !names_user_pred(head) {
+        return Ok(None);
+    }
+    match read_body(alloc, body)? {
+        None => Ok(None),
+        Some(body) => {
+            let head = copy(alloc, head)?;
+            Ok(Some(ReadClause {
+                head,
+                body: Some(body),
+                line: sentence.line,
+                variables: sentence.vars,
+            }))
+        }
+    }
+}
+
+/// The clause that a sentence is, none where it is a directive, or its head or a goal is a variable, a number, control or a built-in.
+///
+/// # Errors
+/// Want of memory.
+pub(crate) fn read_clause(
+    alloc: Global,
+    sentence: &Sentence,
+) -> Result<Option<ReadClause>, NoMemory>
+    ensures some { IfOk result (λ answer. IfSome answer (λ clause. IsClause sentence.now clause)) }
+    ensures none { IfOk result (λ answer. IfNone answer ((clause : ReadClauseValue) → IsClause sentence.now clause → ⊥)) }
+{
+    match operands(&sentence.term, NECK) {
+        Some((head, body)) => rule(alloc, sentence, head, body),
+        None => fact(alloc, sentence),
+    }
+}

@@ -1,0 +1,3 @@
+:- module(syntax,[p/1]).
+p(a).
+p(a b).
