@@ -1,13 +1,13 @@
 pub mod Counting
 pub mod FixedNames
-pub mod ListPrinting
 pub mod Occurrences
 pub mod OperatorChanges
 pub mod OperatorLists
 pub mod OperatorTables
 pub mod OperatorTies
 pub mod OperatorTorn
-pub mod PrintingLemmas
+pub mod QuotingLemmas
+pub mod ShortLists
 pub mod Sizes
 pub mod TermFolds
 pub mod TermLaws

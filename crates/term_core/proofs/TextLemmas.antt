@@ -1,7 +1,8 @@
 use Rattle.std.proofs.Common.{◌≡◌, ℕ, ◌+◌, Bool, true, false, not, cond, List, [], ◌∷◌, ◌++◌, map, length, String, Some, None, refl, sym, ap, ◌∙◌, position, nat_lt, slice_get, option_map}
 use Rattle.std.proofs.lemmas.Option.{slice_get-map}
-use Rattle.std.proofs.lemmas.List.{append-nil}
-use Rattle.std.specs.Prelude.{string_bytes, string_eq, bytes_eq, if◌then◌else◌, ◌||◌}
+use Rattle.std.proofs.lemmas.List.{append-nil, append_assoc}
+use Rattle.std.proofs.lemmas.Str.{IsUtf8-string_bytes}
+use Rattle.std.specs.Prelude.{IsUtf8, string_bytes, string_eq, bytes_eq, if◌then◌else◌, ◌||◌}
 use Rattle.std.specs.List.{IsDistinct, AllByRecursion, list_any, position_or_len}
 use Rattle.std.proofs.lemmas.List.{length-map, map-append}
 use Rattle.term_core.specs.Names.{find_text, place_of, with_text, IsPrefix}
@@ -52,3 +53,12 @@ pub distinct-texts : {A : Type 0} (ks : List (String A)) → IsDistinct string_e
 unfolding IsDistinct
 distinct-texts [] d = tt
 distinct-texts (k ∷ ks) d = (apart-texts k ks d.0, distinct-texts ks d.1)
+
+-- texts are UTF-8
+pub utf8-texts : {A : Type 0} (ks : List (String A)) → AllByRecursion IsUtf8 (texts_of ks)
+utf8-texts [] = tt
+utf8-texts (k ∷ ks) = (IsUtf8-string_bytes k, utf8-texts ks)
+
+-- what begins a list begins each that the list begins
+pub front_of_front : (front middle all : List (List ℕ)) → IsPrefix front middle → IsPrefix middle all → IsPrefix front all
+front_of_front front middle all (rest, a) (more, b) = (rest ++ more, sym (append_assoc front rest more) ∙ ap (λ texts. texts ++ more) a ∙ b)

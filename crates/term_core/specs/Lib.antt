@@ -1,8 +1,9 @@
+pub mod Characters
 pub mod Names
+pub mod OperatorLaws
+pub mod Operators
+pub mod Printing
+pub mod Solutions
+pub mod Standard
 pub mod Terms
 pub mod Unify
-pub mod Solutions
-pub mod Operators
-pub mod Standard
-pub mod OperatorLaws
-pub mod Printing

@@ -1,10 +1,63 @@
 -- The text of a term.
-use Rattle.std.specs.Prelude.{◌≡◌, ℕ, Bool, false, ◌==◌, ◌&&◌, if◌then◌else◌, List, [], ◌∷◌, ◌++◌, length, take, map, flat_map, slice_index_or, codes, decimal}
+use Rattle.std.specs.Prelude.{◌≡◌, ℕ, Bool, false, not, ◌||◌, ◌&&◌, ◌==◌, nat_lt, if◌then◌else◌, List, [], ◌∷◌, ◌++◌, length, take, map, flat_map, slice_index_or, is_some, Option, Some, None, codes, decimal}
 use Rattle.std.specs.Fmt.{signed_decimal}
+use Rattle.term_core.specs.declared.operators.Op.{Op}
+use Rattle.term_core.specs.declared.operators.Operators.{Operators}
 use Rattle.term_core.specs.declared.terms.Term.{Term}
 use Rattle.term_core.specs.declared.terms.Term.TheOpen.{Term-F, Var, Int, Atom, Node}
 use Rattle.term_core.specs.declared.terms.Term.TheFolds.{fold-Term}
-use Rattle.term_core.specs.Names.{nil, cell}
+use Rattle.term_core.specs.Names.{nil, cell, braces, comma, bar}
+use Rattle.term_core.specs.Characters.{is_name}
+use Rattle.term_core.specs.Operators.{prefix_of, infix_of, left_limit, right_limit}
+
+-- names
+
+-- a character between quotes
+abbrev pub escaped : ℕ → List ℕ
+escaped c =
+    if c == 92 then codes "\\\\"
+    else if c == 39 then codes "\\'"
+    else if c == 10 then codes "\\n"
+    else if c == 9 then codes "\\t"
+    else if c == 13 then codes "\\r"
+    else c ∷ []
+
+-- a text between quotes
+abbrev pub in_quotes : List ℕ → List ℕ
+in_quotes text = codes "'" ++ flat_map escaped text ++ codes "'"
+
+-- the text of a name, nothing for a number that is no name's
+abbrev pub name_text : List (List ℕ) → ℕ → List ℕ
+name_text names n = slice_index_or names n []
+
+-- a text with quotes, where they are asked for and a name needs them
+abbrev pub quoted_where_needed : Bool → List ℕ → List ℕ
+quoted_where_needed quoted text = if not quoted || is_name text then text else in_quotes text
+
+-- what is shown of a term
+
+-- the text of a term, and what its surroundings ask of it
+pub record Shown : Type 0 where
+  pub text : List ℕ
+  pub priority : ℕ
+  -- an atom that is a prefix or infix operator
+  pub is_operator : Bool
+  -- what stands behind the items before it where it is the tail of a list
+  pub as_tail : List ℕ
+
+abbrev pub in_parens : List ℕ → List ℕ
+in_parens text = codes "(" ++ text ++ codes ")"
+
+abbrev pub in_parens_where : Bool → List ℕ → List ℕ
+in_parens_where needed text = if needed then in_parens text else text
+
+-- at its place as an argument of a compound or as an item or the tail of a list, where a priority of 999 is allowed
+abbrev pub at_argument : Shown → List ℕ
+at_argument s = in_parens_where (nat_lt 999 s.priority) s.text
+
+-- at its place as an argument of an operator, where this priority is allowed
+abbrev pub at_operand : ℕ → Shown → List ℕ
+at_operand limit s = in_parens_where (nat_lt limit s.priority || s.is_operator) s.text
 
 -- a text after a comma
 abbrev pub after_comma : List ℕ → List ℕ
@@ -15,54 +68,87 @@ abbrev pub with_commas : List (List ℕ) → List ℕ
 with_commas [] = []
 with_commas (text ∷ others) = text ++ flat_map after_comma others
 
--- the text of a name, nothing for a number that is no name's
-abbrev pub name_text : List (List ℕ) → ℕ → List ℕ
-name_text names n = slice_index_or names n []
+-- the tail of a list behind the bar, and the end of the list
+abbrev pub after_bar : List ℕ → List ℕ
+after_bar text = codes "|" ++ text ++ codes "]"
 
--- a name and, in parentheses, arguments
-abbrev pub call_text : List (List ℕ) → ℕ → List (List ℕ) → List ℕ
-call_text names f texts = name_text names f ++ codes "(" ++ with_commas texts ++ codes ")"
-
--- the text of a term, and what stands behind the items before it where it is the tail of a list
-pub record Shown : Type 0 where
-  pub text : List ℕ
-  pub as_tail : List ℕ
+-- a term that is neither an atom nor a list cell
+abbrev pub plain_shown : ℕ → List ℕ → Shown
+plain_shown priority text = record { text = text; priority = priority; is_operator = false; as_tail = after_bar (in_parens_where (nat_lt 999 priority) text) }
 
 -- a list cell: an item, and what stands behind it
 abbrev pub cell_shown : Shown → Shown → Shown
-cell_shown item tail = record { text = codes "[" ++ item.text ++ tail.as_tail; as_tail = after_comma item.text ++ tail.as_tail }
+cell_shown item tail = record { text = codes "[" ++ at_argument item ++ tail.as_tail; priority = 0; is_operator = false; as_tail = after_comma (at_argument item) ++ tail.as_tail }
 
--- any other term: as a tail it ends the list, with a bar before it where it is not the empty list
-abbrev pub end_shown : Bool → List ℕ → Shown
-end_shown is_empty_list text = record { text = text; as_tail = if is_empty_list then codes "]" else codes "|" ++ text ++ codes "]" }
+module _ (names : List (List ℕ)) (ops : Operators) (quoted : Bool) where
+  -- a name before parentheses or as an operator
+  abbrev pub name_shown : ℕ → List ℕ
+  name_shown n = quoted_where_needed quoted (name_text names n)
 
--- a compound in the form of a call
-abbrev pub call_shown : List (List ℕ) → ℕ → List Shown → Shown
-call_shown names f shown = end_shown false (call_text names f (map (λ s. s.text) shown))
+  -- a name alone: `[]` and `{}` need no quotes
+  abbrev pub atom_text : ℕ → List ℕ
+  atom_text a = if a == nil || a == braces then name_text names a else name_shown a
 
--- a compound: one of two arguments with the name of the list cell is a list
-abbrev pub compound_shown : List (List ℕ) → ℕ → List Shown → Shown
-compound_shown names f (item ∷ tail ∷ []) = if f == cell then cell_shown item tail else call_shown names f (item ∷ tail ∷ [])
-compound_shown names f shown = call_shown names f shown
+  abbrev pub atom_shown : ℕ → Shown
+  atom_shown a = record {
+    text = atom_text a;
+    priority = 0;
+    is_operator = is_some (prefix_of ops a) || is_some (infix_of ops a);
+    as_tail = if a == nil then codes "]" else after_bar (atom_text a);
+  }
 
--- a term from what is shown of its parts
-abbrev pub shown_step : List (List ℕ) → Term-F Shown → Shown
-shown_step names (Var v) = end_shown false (codes "_" ++ decimal v)
-shown_step names (Int n) = end_shown false (signed_decimal n)
-shown_step names (Atom a) = end_shown (nil == a) (name_text names a)
-shown_step names (Node f shown) = compound_shown names f shown
+  -- a name and, in parentheses, arguments
+  abbrev pub call_text : ℕ → List (List ℕ) → List ℕ
+  call_text f texts = name_shown f ++ codes "(" ++ with_commas texts ++ codes ")"
 
--- what is shown of a term
-abbrev pub shown_of : List (List ℕ) → Term → Shown
-shown_of names = fold-Term Shown (shown_step names)
+  abbrev pub call_shown : ℕ → List Shown → Shown
+  call_shown f parts = plain_shown 0 (call_text f (map at_argument parts))
 
--- the text of a term without operators and quotes: a variable is `_` and its number, a list its items in brackets, another compound its name and, in parentheses, its arguments
-abbrev pub Printed : List (List ℕ) → Term → List ℕ
-Printed names t = (shown_of names t).text
+  -- one argument behind a prefix operator
+  abbrev pub prefix_text : ℕ → Op → Shown → List ℕ
+  prefix_text f o part = name_shown f ++ codes " " ++ at_operand (right_limit o) part
 
--- what stands behind the items of a list before this tail
-abbrev pub PrintedTail : List (List ℕ) → Term → List ℕ
-PrintedTail names t = (shown_of names t).as_tail
+  -- an infix operator between its arguments; the comma and the bar need no quotes
+  abbrev pub infix_name : ℕ → List ℕ
+  infix_name f = if f == comma then codes "," else if f == bar then codes " | " else codes " " ++ name_shown f ++ codes " "
+
+  -- two arguments with an infix operator between them
+  abbrev pub infix_text : ℕ → Op → Shown → Shown → List ℕ
+  infix_text f o left right = at_operand (left_limit o) left ++ infix_name f ++ at_operand (right_limit o) right
+
+  -- a compound of one argument, by what its name is as a prefix operator; one of priority 1150 stands for an assertion's keyword and is written as a call
+  abbrev pub one_shown : ℕ → Option Op → Shown → Shown
+  one_shown f None part = call_shown f (part ∷ [])
+  one_shown f (Some o) part = if o.priority == 1150 then call_shown f (part ∷ []) else plain_shown o.priority (prefix_text f o part)
+
+  -- a compound of two arguments, by what its name is as an infix operator
+  abbrev pub two_shown : ℕ → Option Op → Shown → Shown → Shown
+  two_shown f None left right = call_shown f (left ∷ right ∷ [])
+  two_shown f (Some o) left right = plain_shown o.priority (infix_text f o left right)
+
+  abbrev pub compound_shown : ℕ → List Shown → Shown
+  compound_shown f (part ∷ []) = if f == braces then plain_shown 0 (codes "{" ++ part.text ++ codes "}") else one_shown f (prefix_of ops f) part
+  compound_shown f (left ∷ right ∷ []) = if f == cell then cell_shown left right else two_shown f (infix_of ops f) left right
+  compound_shown f parts = call_shown f parts
+
+  -- a term from what is shown of its parts
+  abbrev pub shown_step : Term-F Shown → Shown
+  shown_step (Var v) = plain_shown 0 (codes "_" ++ decimal v)
+  shown_step (Int n) = plain_shown 0 (signed_decimal n)
+  shown_step (Atom a) = atom_shown a
+  shown_step (Node f parts) = compound_shown f parts
+
+  -- what is shown of a term
+  abbrev pub shown_of : Term → Shown
+  shown_of = fold-Term Shown shown_step
+
+  -- the text of a term: a variable is `_` and its number, a list its items in brackets, a compound whose name is an operator that name before or between its arguments, in parentheses where they need them, another compound its name and, in parentheses, its arguments
+  abbrev pub Printed : Term → List ℕ
+  Printed t = (shown_of t).text
+
+  -- what stands behind the items of a list before this tail
+  abbrev pub PrintedTail : Term → List ℕ
+  PrintedTail t = (shown_of t).as_tail
 
 -- whether a term is a list cell
 abbrev pub is_cell : Term-F Term → Bool

@@ -1,16 +1,19 @@
 //! Names, terms, their unification and their text.
 #![tactic(auto)]
 
+mod characters;
 mod equations;
 mod memory;
 mod names;
 mod operators;
 mod printing;
+mod quoting;
 mod standard;
 mod terms;
 #[cfg(test)]
 mod tests;
 
+pub use characters::{is_symbol, is_word_part};
 pub use equations::{Binding, Equation, Outcome, unification_law};
 pub use memory::NoMemory;
 pub use names::{Names, names_law, names_threads_law};

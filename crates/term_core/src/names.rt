@@ -1,6 +1,6 @@
 // Names: each is a text with a number, its place.
-ghost use Rattle.std.specs.Prelude.{◌≡◌, ◌<◌, ◌+◌, ◌^◌, List, ℕ, [], ◌∷◌, ◌++◌, map, length, slice_get, IfOk, OnOk, OnErr, option_map, Some, bytes_eq};
-ghost use Rattle.std.specs.List.{IsDistinct};
+ghost use Rattle.std.specs.Prelude.{◌≡◌, ◌<◌, ◌+◌, ◌^◌, List, ℕ, [], ◌∷◌, ◌++◌, map, length, slice_get, IfOk, OnOk, OnErr, option_map, Some, bytes_eq, string_bytes, IsUtf8};
+ghost use Rattle.std.specs.List.{IsDistinct, AllByRecursion};
 ghost use Rattle.term_core.specs.Names.{fixed_names, place_of, with_text, with_texts, find_text, IsPrefix, NamesArePlaces};
 ghost use Rattle.std.specs.Thread.{IsSend, IsSync};
 ghost use Rattle.term_core.specs.contracts.names.Names.{the_row as names_row};
@@ -29,10 +29,36 @@ pub struct Names {
 
 impl Model for Names {
     ghost use Rattle.std.specs.Prelude.{List, ℕ, map, string_bytes};
+    ghost use Rattle.term_core.specs.Names.{IsPrefix, fixed_names};
 
     ghost Value = { List (List ℕ) };
 
     ghost view = { λ a. map string_bytes a.texts.keys };
+
+    ghost invariant = { λ a. IsPrefix fixed_names (map string_bytes a.texts.keys) };
+}
+
+// The place of a text, which is added where it is new.
+fn add(alloc: Global, texts: &mut IndexSet<String>, text: &str) -> Result<u64, NoMemory>
+    ensures place { IfOk result (λ number. number ≡ place_of text.now (map string_bytes texts.old.keys)) }
+    ensures ok { OnOk result (map string_bytes texts.new.keys ≡ with_text (map string_bytes texts.old.keys) text.now) }
+    ensures err { OnErr result (map string_bytes texts.new.keys ≡ map string_bytes texts.old.keys) }
+    ensures found { IfOk result (λ number. slice_get (map string_bytes texts.new.keys) number ≡ Some text.now) }
+    ensures kept { IsPrefix (map string_bytes texts.old.keys) (map string_bytes texts.new.keys) }
+{
+    let owned = String::from_str(alloc, text)?;
+    let (at, _) = texts.insert_full(owned)?;
+    Ok(at as u64)
+}
+
+// Adds each text that is new, in order.
+fn add_all(alloc: Global, texts: &mut IndexSet<String>, new: &[&str]) -> Result<(), NoMemory>
+    ensures { OnOk result (map string_bytes texts.new.keys ≡ with_texts (map string_bytes texts.old.keys) (map (λ text. text.now) new.now)) }
+{
+    for text in new {
+        add(alloc, texts, text)?;
+    }
+    Ok(())
 }
 
 impl Names {
@@ -40,34 +66,22 @@ impl Names {
     pub fn new(alloc: Global) -> Result<Names, NoMemory>
         ensures { IfOk result (λ names. names ≡ fixed_names) }
     {
-        let mut names = Names::empty(alloc);
-        names.intern_all(&FIXED)?;
-        Ok(names)
+        let mut texts = IndexSet::new(alloc);
+        add_all(alloc, &mut texts, &FIXED)?;
+        Ok(Names { alloc, texts })
     }
 
-    fn empty(alloc: Global) -> Names
-        ensures { result ≡ [] }
-    {
-        Names {
-            alloc,
-            texts: IndexSet::new(alloc),
-        }
-    }
-
-    // Adds each text that is new, in order.
-    fn intern_all(&mut self, texts: &[&str]) -> Result<(), NoMemory>
-        ensures { OnOk result (self.new ≡ with_texts self.old (map (λ text. text.now) texts.now)) }
-    {
-        for text in texts {
-            self.intern(text)?;
-        }
-        Ok(())
+    // Where memory is asked for.
+    pub(crate) fn allocator(&self) -> Global {
+        self.alloc
     }
 
     /// How many there are.
     pub fn len(&self) -> u64
         ensures len { result ≡ length self.now }
         ensures distinct { IsDistinct bytes_eq self.now }
+        ensures begins { IsPrefix fixed_names self.now }
+        ensures utf8 { AllByRecursion IsUtf8 self.now }
     {
         self.texts.len() as u64
     }
@@ -101,9 +115,7 @@ impl Names {
         ensures found { IfOk result (λ number. slice_get self.new number ≡ Some text.now) }
         ensures kept { IsPrefix self.old self.new }
     {
-        let owned = String::from_str(self.alloc, text)?;
-        let (at, _) = self.texts.insert_full(owned)?;
-        Ok(at as u64)
+        add(self.alloc, &mut self.texts, text)
     }
 }
 

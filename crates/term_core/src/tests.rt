@@ -29,46 +29,198 @@ fn sum_term(alloc: Global) -> Result<Term, NoMemory> {
     Ok(Term::Node(47, parts))
 }
 
-// A list cell.
-fn cell(alloc: Global, item: Term, tail: Term) -> Result<Term, NoMemory> {
-    let mut parts = Items::new(alloc);
-    parts.push(item)?;
-    parts.push(tail)?;
-    Ok(Term::Node(1, parts))
+#[test]
+fn terms_are_copied(rt: HostRuntime) -> Result<(), Fail> {
+    let alloc = rt.alloc();
+    let names = Names::new(alloc)?;
+    let ops = OpTable::standard(alloc)?;
+    let term = copy(alloc, &sum_term(alloc)?)?;
+    assert_eq!(rt; depth(&term), 3);
+    assert_eq!(rt; vars(alloc, &term)?.as_slice(), [7, 3].as_slice());
+    for (term, quoted, text) in [
+        (&term, false, "+(_7,-12,_7 * _3)"),
+        (&Term::Atom(75), false, ""),
+        (&Term::Atom(75), true, "''"),
+    ] {
+        let mut out = String::new(alloc);
+        print_term(&names, &ops, term, quoted, &mut out)?;
+        assert_eq!(rt; out.as_str(), text);
+    }
+    Ok(())
 }
 
-// The text of the term that is a copy of this one.
-fn printed(alloc: Global, term: &Term) -> Result<String, NoMemory> {
-    let names = Names::new(alloc)?;
-    let copied = copy(alloc, term)?;
+// The last so many terms as arguments.
+fn compound(alloc: Global, name: u64, arity: u64, terms: &mut Vec<Term>) -> Result<Term, NoMemory> {
+    let mut taken = Vec::new(alloc);
+    for _ in 0..arity {
+        if let Some(term) = terms.pop() {
+            taken.push(term)?;
+        }
+    }
+    let mut arguments = Items::new(alloc);
+    for _ in 0..arity {
+        if let Some(term) = taken.pop() {
+            arguments.push(term)?;
+        }
+    }
+    Ok(Term::Node(name, arguments))
+}
+
+// The term that a word stands for: `name/1` or `name/2` takes as many terms as it says.
+fn word_term(
+    alloc: Global,
+    names: &mut Names,
+    word: &str,
+    terms: &mut Vec<Term>,
+) -> Result<Term, NoMemory> {
+    if let Some(name) = word.strip_suffix("/1") {
+        return compound(alloc, names.intern(name)?, 1, terms);
+    }
+    if let Some(name) = word.strip_suffix("/2") {
+        return compound(alloc, names.intern(name)?, 2, terms);
+    }
+    match word.parse::<i64>() {
+        Ok(number) => Ok(Term::Int(number)),
+        Err(_) => Ok(Term::Atom(names.intern(word)?)),
+    }
+}
+
+// The text of a term that is given by its words, each behind its arguments.
+fn printed(alloc: Global, ops: &OpTable, quoted: bool, words: &str) -> Result<String, NoMemory> {
+    let mut names = Names::new(alloc)?;
+    let mut terms = Vec::new(alloc);
+    for word in words.split(' ') {
+        let term = word_term(alloc, &mut names, word, &mut terms)?;
+        terms.push(term)?;
+    }
     let mut text = String::new(alloc);
-    print_term(&names, &copied, &mut text)?;
+    for term in terms.as_slice() {
+        print_term(&names, ops, term, quoted, &mut text)?;
+    }
     Ok(text)
 }
 
 #[test]
-fn terms_are_copied_and_printed(rt: HostRuntime) -> Result<(), Fail> {
+fn terms_are_printed(rt: HostRuntime) -> Result<(), Fail> {
     let alloc = rt.alloc();
-    let term = sum_term(alloc)?;
-    assert_eq!(rt; depth(&term), 3);
-    assert_eq!(rt; vars(alloc, &term)?.as_slice(), [7, 3].as_slice());
-    assert_eq!(rt; printed(alloc, &term)?.as_str(), "+(_7,-12,*(_7,_3))");
-    for (atom, text) in [(0, "[]"), (75, "")] {
-        assert_eq!(rt; printed(alloc, &Term::Atom(atom))?.as_str(), text);
-    }
-    let closed = cell(alloc, Term::Var(7), Term::Atom(0))?;
-    let open = cell(alloc, Term::Int(-12), Term::Var(7))?;
-    let nested = cell(
-        alloc,
-        cell(alloc, Term::Atom(0), Term::Atom(8))?,
-        cell(alloc, Term::Atom(0), Term::Atom(0))?,
-    )?;
-    for (list, text) in [
-        (&closed, "[_7]"),
-        (&open, "[-12|_7]"),
-        (&nested, "[[[]|true],[]]"),
+    let ops = OpTable::standard(alloc)?;
+    for (words, text) in [
+        ("1 -/1", "- 1"),
+        ("-1", "-1"),
+        ("1 -1 -/2", "1 - -1"),
+        ("a b -/2 c -/2", "a - b - c"),
+        ("a b c -/2 -/2", "a - (b - c)"),
+        ("a b ^/2 c ^/2", "(a ^ b) ^ c"),
+        ("a b c ^/2 ^/2", "a ^ b ^ c"),
+        ("a b =/2 c =/2", "(a = b) = c"),
+        ("a b c =/2 =/2", "a = (b = c)"),
+        ("a b =/2 \\+/1", "\\+ a = b"),
+        ("a -/1 -/1", "- - a"),
+        ("a ~/1 ~/1", "~ (~ a)"),
+        ("a -/1 b -/2", "- a - b"),
+        ("a b -/2 -/1", "- (a - b)"),
+        ("a b ->/2 c ;/2", "a -> b ; c"),
+        ("a b ;/2 c ->/2", "(a ; b) -> c"),
+        ("- -/1", "- (-)"),
+        ("- a =/2", "(-) = a"),
+        ("a , =/2", "a = (',')"),
+        ("- - - ./2 f/2", "f(-,[-|-])"),
+        ("a b c ,/2 :-/2 f/1", "f((a :- b,c))"),
+        ("a b c ,/2 :-/2 [] ./2", "[(a :- b,c)]"),
+        ("x a b c ,/2 :-/2 ./2", "[x|(a :- b,c)]"),
+        ("a b :-/2 {}/1", "{a :- b}"),
+        ("a :-/1", ":- a"),
+        ("a pred/1", "pred(a)"),
+        ("a pred/1 check/1", "check(pred(a))"),
+        ("a b :=/2", "a := b"),
+        ("a b :=/2 pred/1", "pred((a := b))"),
+        ("a b |/2", "a | b"),
+        ("a b ,/2", "a,b"),
+        ("a b ,/2 c ,/2", "(a,b),c"),
+        ("a b c ,/2 ,/2", "a,b,c"),
+        ("a b ,/2 f/1", "f((a,b))"),
+        ("a ,/1 |/1", "'|'(','(a))"),
+        ("a []/1", "'[]'(a)"),
+        ("a b {}/2", "'{}'(a,b)"),
+        ("a ./1", "'.'(a)"),
+        ("a is/1", "is(a)"),
+        ("[] true ./2 [] [] ./2 ./2", "[[[]|true],[]]"),
+        ("a X -/2 B_c b/2", "b(a - 'X','B_c')"),
     ] {
-        assert_eq!(rt; printed(alloc, list)?.as_str(), text);
+        assert_eq!(rt; printed(alloc, &ops, true, words)?.as_str(), text);
+    }
+    Ok(())
+}
+
+// The text of an atom of this name.
+fn printed_atom(
+    alloc: Global,
+    ops: &OpTable,
+    quoted: bool,
+    name: &str,
+) -> Result<String, NoMemory> {
+    let mut names = Names::new(alloc)?;
+    let atom = Term::Atom(names.intern(name)?);
+    let mut text = String::new(alloc);
+    print_term(&names, ops, &atom, quoted, &mut text)?;
+    Ok(text)
+}
+
+#[test]
+fn names_are_quoted_where_they_need_it(rt: HostRuntime) -> Result<(), Fail> {
+    let alloc = rt.alloc();
+    let ops = OpTable::standard(alloc)?;
+    for (name, quoted) in [
+        ("[]", "[]"),
+        ("{}", "{}"),
+        ("!", "!"),
+        (";", ";"),
+        ("a", "a"),
+        ("aB_1", "aB_1"),
+        ("+++", "+++"),
+        ("..", ".."),
+        ("*/", "*/"),
+        ("\\", "\\"),
+        ("", "''"),
+        (".", "'.'"),
+        ("/*", "'/*'"),
+        ("/*+", "'/*+'"),
+        (",", "','"),
+        ("|", "'|'"),
+        ("!;", "'!;'"),
+        ("a b", "'a b'"),
+        ("a+", "'a+'"),
+        ("A", "'A'"),
+        ("_a", "'_a'"),
+        ("1a", "'1a'"),
+        ("[", "'['"),
+        ("é", "'é'"),
+        ("añ\n漢", "'añ\\n漢'"),
+        ("\n", "'\\n'"),
+        ("\t", "'\\t'"),
+        ("\r", "'\\r'"),
+        ("a\\b", "'a\\\\b'"),
+        ("it's", "'it\\'s'"),
+    ] {
+        assert_eq!(rt; printed_atom(alloc, &ops, true, name)?.as_str(), quoted);
+        assert_eq!(rt; printed_atom(alloc, &ops, false, name)?.as_str(), name);
+    }
+    Ok(())
+}
+
+#[test]
+fn other_operators_are_printed(rt: HostRuntime) -> Result<(), Fail> {
+    let alloc = rt.alloc();
+    let mut ops = OpTable::standard(alloc)?;
+    // The first name that is new has the number 75, and 48 is `-`.
+    for (priority, kind, name, words, text) in [
+        (700, OpKind::Xfx, 75, "1 -/1 2 Is/2", "- 1 'Is' 2"),
+        (700, OpKind::Xfx, 75, "Is 2 Is/2", "('Is') 'Is' 2"),
+        (0, OpKind::Fy, 48, "- -/1 1 -/2", "-(-) - 1"),
+        (0, OpKind::Yfx, 48, "- -/1 1 -/2", "-(-(-),1)"),
+    ] {
+        assert_eq!(rt; ops.add(priority, kind, name), Ok(()));
+        assert_eq!(rt; printed(alloc, &ops, true, words)?.as_str(), text);
     }
     Ok(())
 }

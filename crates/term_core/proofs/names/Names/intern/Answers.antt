@@ -1,28 +1,10 @@
-use Rattle.std.proofs.Common.{ap, ◌∙◌, sym, subst}
-use Rattle.std.proofs.lemmas.Slice.Eq.{bytes_eq-Decides}
-use Rattle.std.specs.Prelude.{string_bytes, bytes_eq}
-use Rattle.term_core.specs.Names.{place_of, with_text, IsPrefix}
-use Rattle.term_core.proofs.TextLemmas.{place-texts, insert-texts, texts_of, front_with, text_at}
+use Rattle.std.proofs.Common.{subst}
+use Rattle.term_core.specs.Names.{fixed_names, IsPrefix}
+use Rattle.term_core.proofs.TextLemmas.{front_of_front, texts_of}
 use Rattle.term_core.proofs.names.Names.intern.Goals as goal
 
-pub returns-clause-place : goal.returns-clause-place
-returns-clause-place c =
-    c.in_ok-at.ensures.index
-    ∙ place-texts (bytes_eq (string_bytes c.in_ok-owned.owned)) c.self.inside.texts.keys
-    ∙ ap (λ t. place_of t (texts_of c.self.inside.texts.keys)) c.in_ok-owned.ensures.ok
-    ∙ ap (place_of c.args.text.now) c.self.view_is
-
-pub returns-clause-ok : goal.returns-clause-ok
-returns-clause-ok c =
-    ap texts_of c.in_ok-at.ensures.keys
-    ∙ insert-texts c.in_ok-owned.owned c.self.inside.texts.keys c.args.text.now c.in_ok-owned.ensures.ok
-    ∙ ap (λ ts. with_text ts c.args.text.now) c.self.view_is
-
-pub returns-clause-found : goal.returns-clause-found
-returns-clause-found c =
-    let stored = c.in_ok-at.ensures.stored in
-    text_at c.insert_full.new.self.keys c.in_ok-at.at stored.0 c.args.text.now stored.1
-    (sym ((bytes_eq-Decides (string_bytes c.in_ok-owned.owned) (string_bytes stored.0)).0 stored.2) ∙ c.in_ok-owned.ensures.ok)
+pub invariant_of-self : goal.invariant_of-self
+invariant_of-self c = front_of_front fixed_names (texts_of c.self.inside.texts.keys) (texts_of c.add.new.texts.keys) c.self.invariant c.add.ensures.kept
 
 pub returns-clause-kept : goal.returns-clause-kept
-returns-clause-kept c = subst (IsPrefix c.args.self.now) (sym (returns-clause-ok c)) (front_with c.args.self.now c.args.text.now)
+returns-clause-kept c = subst (λ texts. IsPrefix texts (texts_of c.add.new.texts.keys)) c.self.view_is c.add.ensures.kept

@@ -1,7 +1,12 @@
-use Rattle.std.proofs.Common.{◌∙◌, ap}
-use Rattle.term_core.specs.Names.{fixed_names, with_texts}
+use Rattle.std.proofs.Common.{[], ◌∙◌, ap, map, sym, subst}
+use Rattle.std.proofs.lemmas.List.{append-nil}
+use Rattle.std.specs.Prelude.{string_bytes}
+use Rattle.term_core.specs.Names.{fixed_names, with_texts, IsPrefix}
 use Rattle.term_core.proofs.FixedNames.{all_new}
 use Rattle.term_core.proofs.names.Names.new.Goals as goal
 
 pub returns : goal.returns
-returns c = c.in_ok-intern_all.ensures ∙ ap (λ names. with_texts names fixed_names) c.empty-names.ensures ∙ all_new
+returns c = c.in_ok-add_all.ensures ∙ ap (λ keys. with_texts (map string_bytes keys) fixed_names) c.new-texts.ensures.empty ∙ all_new
+
+pub invariant_of-result : goal.invariant_of-result
+invariant_of-result c = subst (IsPrefix fixed_names) (sym (returns c)) ([], append-nil fixed_names)
