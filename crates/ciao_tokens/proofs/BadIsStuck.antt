@@ -7,7 +7,7 @@ use Rattle.std.proofs.Math.Seq.{take-nil}
 use Rattle.std.proofs.lemmas.Bool.{and_parts, and_left, eqb-true, or_cases, or_left, or_right, true≢false}
 use Rattle.std.proofs.lemmas.Bool.Decides.{nat_tests}
 use Rattle.std.proofs.lemmas.List.{append_assoc, append-nil}
-use Rattle.ciao_tokens.specs.Characters.{is_symbol, is_word_part, opens_comment}
+use Rattle.term_core.specs.Characters.{is_symbol, is_word_part, opens_comment}
 use Rattle.ciao_tokens.specs.Layout.{is_layout, is_blank, closes_comment}
 use Rattle.ciao_tokens.specs.Quotes.{Inside, value_of}
 use Rattle.ciao_tokens.specs.Forms.{Shape, number, Form, IsNumber, decimal, hexadecimal, character, stands, starts, ends_or_starts, starts_fraction}

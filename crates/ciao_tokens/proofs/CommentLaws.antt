@@ -7,7 +7,7 @@ use Rattle.std.specs.Char.{is_ascii}
 use Rattle.std.specs.Str.{IsCharBoundary}
 use Rattle.std.specs.Prelude.{IsUtf8, ◌==◌, ◌&&◌, not, option_map, Option, Some, None, if◌then◌else◌}
 use Rattle.std.specs.List.{list_all, prefix_len, slice_index}
-use Rattle.ciao_tokens.specs.Characters.{is_symbol, is_point, opens_comment}
+use Rattle.term_core.specs.Characters.{is_symbol, is_point, opens_comment}
 use Rattle.ciao_tokens.specs.Layout.{is_layout, is_empty, closes_comment}
 use Rattle.ciao_tokens.specs.Forms.{Shape, stop, Form, stands, starts}
 use Rattle.ciao_tokens.specs.Pieces.{layout, IsStuck}

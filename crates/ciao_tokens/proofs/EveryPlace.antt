@@ -8,7 +8,7 @@ use Rattle.std.proofs.lemmas.Bool.Decides.{nat_tests}
 use Rattle.std.proofs.lemmas.List.{append-nil, take-append-drop}
 use Rattle.std.proofs.lemmas.List.Sums.{prefix_len-le-length}
 use Rattle.std.proofs.lemmas.Str.{IsUtf8-drop}
-use Rattle.ciao_tokens.specs.Characters.{is_symbol, is_word_part, is_point, opens_comment}
+use Rattle.term_core.specs.Characters.{is_symbol, is_word_part, is_point, opens_comment}
 use Rattle.ciao_tokens.specs.Layout.{is_blank, closes_comment}
 use Rattle.ciao_tokens.specs.Quotes.{Inside}
 use Rattle.ciao_tokens.specs.Forms.{starts, ends_or_starts}

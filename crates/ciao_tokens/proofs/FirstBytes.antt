@@ -4,7 +4,7 @@ use Rattle.std.proofs.lemmas.Bool.{and_parts, or_cases}
 use Rattle.std.specs.Prelude.{◌==◌, ◌||◌, not}
 use Rattle.std.specs.List.{list_all}
 use Rattle.std.specs.Char.{is_ascii_uppercase}
-use Rattle.ciao_tokens.specs.Characters.{is_symbol, is_word_part, is_name, is_lower_word, is_symbol_run, is_solo}
+use Rattle.term_core.specs.Characters.{is_symbol, is_word_part, is_name, is_lower_word, is_symbol_run, is_solo}
 use Rattle.ciao_tokens.specs.Layout.{is_layout, is_space, is_blank, is_line_comment, is_block_comment}
 use Rattle.ciao_tokens.specs.Forms.{Shape, name, quoted, variable, number, text, mark, stop, Mark, paren, close_paren, bracket, close_bracket, curly, close_curly, comma, bar, byte_of, Form, IsNumber, decimal, hexadecimal, character}
 use Rattle.ciao_tokens.specs.Quotes.{Inside}

@@ -30,3 +30,7 @@ pub mod NumberScan
 pub mod EveryPlace
 pub mod EveryText
 pub mod InOrder
+pub mod WrittenDigits
+pub mod WrittenQuotes
+pub mod WrittenTokens
+pub mod WrittenWords

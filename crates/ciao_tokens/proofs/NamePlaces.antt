@@ -25,7 +25,7 @@ front_with names word = by (list_any (bytes_eq word) names)
     by false = (word ∷ [], refl)
 
 -- the names stay at the front of those with more
-front_names : (names ws : List (List ℕ)) → IsPrefix names (with_texts names ws)
+pub front_names : (names ws : List (List ℕ)) → IsPrefix names (with_texts names ws)
 front_names names [] = front_itself names
 front_names names (w ∷ ws) = front_twice names _ _ (front_with names w) (front_names (with_text names w) ws)
 

@@ -5,7 +5,7 @@ use Rattle.std.proofs.lemmas.Bool.Decides.{nat_tests}
 use Rattle.std.specs.Prelude.{not}
 use Rattle.std.specs.List.{list_all}
 use Rattle.std.specs.Char.{is_ascii}
-use Rattle.ciao_tokens.specs.Characters.{opens_comment}
+use Rattle.term_core.specs.Characters.{opens_comment}
 use Rattle.ciao_tokens.specs.Layout.{is_blank}
 use Rattle.ciao_tokens.specs.Forms.{name, mark, byte_of}
 use Rattle.ciao_tokens.specs.Pieces.{layout, token, IsStuck}

@@ -2,7 +2,7 @@
 use Rattle.std.proofs.Common.{arith, ◌≡◌, ◌⊎◌, inl, inr, ℕ, List, [], ◌∷◌, refl, ap, sym, ◌∙◌, subst, true, false}
 use Rattle.std.specs.Prelude.{◌&&◌, ◌||◌, ◌==◌}
 use Rattle.std.proofs.lemmas.Bool.{and_parts, eqb-true, or_cases, true≢false}
-use Rattle.ciao_tokens.specs.Characters.{is_name, is_symbol_run}
+use Rattle.term_core.specs.Characters.{is_name, is_symbol_run}
 use Rattle.ciao_tokens.specs.Layout.{is_layout, is_space, is_line_comment, is_block_comment, closes_comment}
 use Rattle.ciao_tokens.specs.Forms.{Shape, name, quoted, variable, number, text, mark, stop, Form, byte_of}
 use Rattle.ciao_tokens.proofs.Bytes.{same_head}

@@ -6,7 +6,7 @@ use Rattle.std.specs.Char.{is_ascii_lowercase, is_ascii_uppercase, is_ascii_digi
 use Rattle.std.proofs.lemmas.Bool.{and_parts, eqb-true, leb-true, agree_below_at, or_cases, true≢false}
 use Rattle.std.specs.Prelude.{nat_le as leb}
 use Rattle.ciao_tokens.proofs.Bytes.{same_head, not_empty}
-use Rattle.ciao_tokens.specs.Characters.{is_symbol, is_name, is_lower_word, is_upper_word, is_symbol_run, is_solo}
+use Rattle.term_core.specs.Characters.{is_symbol, is_name, is_lower_word, is_upper_word, is_symbol_run, is_solo}
 use Rattle.ciao_tokens.specs.Forms.{Shape, name, quoted, variable, number, text, mark, stop, Form, IsNumber, decimal, hexadecimal, character, Mark, paren, close_paren, bracket, close_bracket, curly, close_curly, comma, bar, byte_of}
 
 -- by the first byte: what sort of token it begins

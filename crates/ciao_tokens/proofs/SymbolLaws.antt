@@ -4,7 +4,7 @@ use Rattle.std.proofs.lemmas.Bool.{or_left, or_right, and_parts, and_from}
 use Rattle.std.specs.Prelude.{◌==◌, ◌||◌, ◌&&◌, not, codes}
 use Rattle.std.specs.List.{list_all}
 use Rattle.std.specs.Char.{is_ascii}
-use Rattle.ciao_tokens.specs.Characters.{is_symbol, is_point, opens_comment}
+use Rattle.term_core.specs.Characters.{is_symbol, is_point, opens_comment}
 use Rattle.ciao_tokens.specs.Layout.{is_layout, is_block_comment, is_blank}
 use Rattle.ciao_tokens.specs.Forms.{Shape, name, stop, Form, stands, ends_or_starts}
 use Rattle.ciao_tokens.specs.Pieces.{token, IsStuck}

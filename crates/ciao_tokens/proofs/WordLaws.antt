@@ -5,7 +5,7 @@ use Rattle.std.proofs.lemmas.Bool.Decides.{nat_tests}
 use Rattle.std.specs.Prelude.{◌==◌, ◌||◌, not}
 use Rattle.std.specs.List.{list_all}
 use Rattle.std.specs.Char.{is_ascii, is_ascii_lowercase, is_ascii_uppercase}
-use Rattle.ciao_tokens.specs.Characters.{is_word_part, opens_comment}
+use Rattle.term_core.specs.Characters.{is_word_part, opens_comment}
 use Rattle.ciao_tokens.specs.Forms.{Shape, name, variable}
 use Rattle.ciao_tokens.specs.Pieces.{token}
 use Rattle.ciao_tokens.specs.declared.classes.Class.{Class}

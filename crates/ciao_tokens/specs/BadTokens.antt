@@ -2,7 +2,7 @@
 use Rattle.std.specs.Prelude.{◌≡◌, ◌≤◌, ◌⊎◌, ℕ, Bool, true, false, ◌||◌, ◌==◌, List, ◌∷◌, ◌++◌, length, take, drop, codes}
 use Rattle.std.specs.List.{list_all, list_any}
 use Rattle.std.specs.Char.{is_ascii_digit, is_ascii_alphabetic}
-use Rattle.ciao_tokens.specs.Characters.{is_symbol, is_word_part}
+use Rattle.term_core.specs.Characters.{is_symbol, is_word_part}
 use Rattle.ciao_tokens.specs.Layout.{is_blank, closes_comment}
 use Rattle.ciao_tokens.specs.Quotes.{Part, Inside}
 use Rattle.ciao_tokens.specs.Forms.{IsNumber, starts, ends_or_starts, starts_fraction}

@@ -2,7 +2,7 @@
 use Rattle.std.specs.Prelude.{ℕ, Bool, ◌||◌, ◌==◌, [], ◌∷◌, if◌then◌else◌}
 use Rattle.std.specs.List.{list_any}
 use Rattle.std.specs.Char.{is_ascii_lowercase, is_ascii_uppercase, is_ascii_digit}
-use Rattle.ciao_tokens.specs.Characters.{is_symbol}
+use Rattle.term_core.specs.Characters.{is_symbol}
 use Rattle.ciao_tokens.specs.declared.classes.Class.{Class}
 use Rattle.ciao_tokens.specs.declared.classes.Class.TheVariants.{Lower, Upper, Digit, Symbol, Blank, Sign, Solo, Percent, Quote, DoubleQuote, Other}
 use Rattle.ciao_tokens.specs.Layout.{is_blank}

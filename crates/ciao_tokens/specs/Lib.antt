@@ -1,4 +1,3 @@
-pub mod Characters
 pub mod Layout
 pub mod Quotes
 pub mod Forms
@@ -6,6 +5,7 @@ pub mod Pieces
 pub mod Tokens
 pub mod Faults
 pub mod BadTokens
+pub mod Written
 pub mod Laws
 pub mod Classes
 pub mod Scanning

@@ -1,8 +1,9 @@
 // Classes of bytes.
 ghost use Rattle.std.specs.Prelude.{◌≡◌};
-ghost use Rattle.ciao_tokens.specs.Characters.{is_symbol, is_word_part};
 ghost use Rattle.ciao_tokens.specs.Layout.{is_blank};
 ghost use Rattle.ciao_tokens.specs.Classes.{is_mark, is_solo_byte, sign_class, class_of};
+
+use term_core::is_symbol;
 
 /// What the first byte of a piece says about it.
 #[derive(Clone, Copy, Drop)]
@@ -18,21 +19,6 @@ pub(crate) enum Class {
     Quote,
     DoubleQuote,
     Other,
-}
-
-pub(crate) fn is_symbol(byte: u8) -> bool
-    ensures { result ≡ is_symbol byte }
-{
-    "+-*/\\^<>=~:.?@#&$"
-        .as_bytes()
-        .iter()
-        .any(|symbol| byte == *symbol)
-}
-
-pub(crate) fn is_word_part(byte: u8) -> bool
-    ensures { result ≡ is_word_part byte }
-{
-    byte.is_ascii_alphanumeric() || byte == b'_'
 }
 
 pub(crate) fn is_blank(byte: u8) -> bool

@@ -1,6 +1,7 @@
 // The laws of tokens.
 ghost use Rattle.std.specs.Prelude.{ℕ, List};
 ghost use Rattle.ciao_tokens.specs.Laws.{OneCut, OneList, NoFault, OneFault, EveryText, SixWays, InOrder};
+ghost use Rattle.ciao_tokens.specs.Written.{WrittenIsRead};
 
 /// A text has at most one list of pieces, and with the same names before at most one list of tokens
 /// and one list of names behind.
@@ -29,4 +30,9 @@ pub fn six_ways_law()
 /// the lines that the line feeds give.
 pub fn order_law()
     ensures { (bytes : List ℕ) → InOrder bytes }
+{}
+
+/// What is written as a token is that token, before nothing, a blank or a mark.
+pub fn written_law()
+    ensures { WrittenIsRead }
 {}

@@ -1,7 +1,7 @@
 // Layout.
 ghost use Rattle.std.specs.Prelude.{IsUtf8, ◌≡◌, ◌≤◌, ◌==◌, ◌&&◌, true, Some, length, drop};
 ghost use Rattle.std.specs.List.{prefix_len};
-ghost use Rattle.ciao_tokens.specs.Characters.{opens_comment};
+ghost use Rattle.term_core.specs.Characters.{opens_comment};
 ghost use Rattle.ciao_tokens.specs.Forms.{starts};
 ghost use Rattle.ciao_tokens.specs.Scanning.{Begins, Finds, Gives, in_line, behind_run, comment_size};
 ghost use Rattle.ciao_tokens.specs.declared.classes.Class.TheVariants as Class;

@@ -1,16 +1,17 @@
 // Names of symbol characters, tokens of one byte, and the `.` that ends a sentence.
 ghost use Rattle.std.specs.Prelude.{IsUtf8, ◌≡◌, ◌≤◌, ◌==◌, ◌||◌, false, length, ℕ, List, ◌∷◌};
 ghost use Rattle.std.specs.List.{prefix_len};
-ghost use Rattle.ciao_tokens.specs.Characters.{is_symbol, is_point, opens_comment};
+ghost use Rattle.term_core.specs.Characters.{is_symbol, is_point, opens_comment};
 ghost use Rattle.ciao_tokens.specs.Layout.{is_blank};
 ghost use Rattle.ciao_tokens.specs.Forms.{ends_or_starts};
 ghost use Rattle.ciao_tokens.specs.Classes.{class_of};
 ghost use Rattle.ciao_tokens.specs.Scanning.{Begins, Finds, Gives, run, behind_run};
 ghost use Rattle.ciao_tokens.specs.declared.classes.Class.TheVariants as Class;
 
-use crate::classes::{is_blank, is_symbol};
+use crate::classes::is_blank;
 use crate::layout::{block_comment, opens_comment};
 use crate::parts::{Found, Part, split};
+use term_core::is_symbol;
 
 /// The token of one byte that is no name.
 pub(crate) fn mark(byte: u8, text: &str) -> Found<'_>

@@ -1,12 +1,12 @@
 // Names of letters, and variables.
 ghost use Rattle.std.specs.Prelude.{IsUtf8, ◌≡◌, ◌≤◌, length};
 ghost use Rattle.std.specs.List.{prefix_len};
-ghost use Rattle.ciao_tokens.specs.Characters.{is_word_part};
+ghost use Rattle.term_core.specs.Characters.{is_word_part};
 ghost use Rattle.ciao_tokens.specs.Scanning.{Begins, Finds, run, behind_run};
 ghost use Rattle.ciao_tokens.specs.declared.classes.Class.TheVariants as Class;
 
-use crate::classes::is_word_part;
 use crate::parts::{Found, Part, split};
+use term_core::is_word_part;
 
 fn word_bytes(text: &str) -> usize
     ensures count { result ≡ prefix_len is_word_part text.now }
