@@ -1,5 +1,5 @@
 -- The variables of a sentence are numbered from 0 by first appearance.
-use Rattle.std.proofs.Common.{arith, ◌≡◌, ◌<◌, ◌≤◌, ◌⊎◌, inl, inr, ℕ, zero, suc, ◌+◌, List, [], ◌∷◌, ◌++◌, length, refl, ap, sym, ◌∙◌, Bool, true, false, cond}
+use Rattle.std.proofs.Common.{arith, ◌≡◌, ◌<◌, ◌≤◌, ◌⊎◌, inl, inr, ℕ, zero, suc, List, [], ◌∷◌, ◌++◌, length, refl, ap, sym, ◌∙◌, Bool, true, false}
 use Rattle.std.specs.Prelude.{◌&&◌, ◌||◌, ◌==◌, not, pos, nat_eq, flat_map, Option, Some, None, if◌then◌else◌}
 use Rattle.std.specs.List.{list_any, position_or_len}
 use Rattle.std.proofs.lemmas.List.{append_assoc, append-nil, length-append}
@@ -23,13 +23,14 @@ use Rattle.ciao_reader.specs.Roles.{calls_next, number_next, stands_alone, opera
 use Rattle.ciao_reader.specs.Derivations.{Tree, Trees, number, negative, variable, text, atom, no_items, no_braces, call, parens, braces, items, items_and_tail, before, between, one, more, words, words_of_all, infix_word}
 use Rattle.ciao_reader.specs.Readings.{term_of, terms_of, list_term, codes_term}
 use Rattle.ciao_reader.specs.Laws.{below, NumberedFromZero}
+use Rattle.ciao_reader.proofs.Positions.{position_within}
 
 -- the numbers of variables in words, in order
 abbrev number_in : Word → List ℕ
 number_in (word.Variable v) = v ∷ []
 number_in other = []
 
-abbrev numbers_in : List Word → List ℕ
+abbrev pub numbers_in : List Word → List ℕ
 numbers_in [] = []
 numbers_in (w ∷ ws) = number_in w ++ numbers_in ws
 
@@ -39,7 +40,7 @@ numbers_append (x ∷ xs) ys = ap (λ ns. number_in x ++ ns) (numbers_append xs 
 
 -- a term has the variables of its words
 
-at_node : (f : ℕ) (ts : List Term) → occurrences (term.Node f ts) ≡ flat_map occurrences ts
+pub at_node : (f : ℕ) (ts : List Term) → occurrences (term.Node f ts) ≡ flat_map occurrences ts
 at_node f ts = fold-Node (List ℕ) occurrences_step f ts ∙ flat_map_map occurrences ts
 
 at_one : (f : ℕ) (t : Term) → occurrences (term.Node f (t ∷ [])) ≡ occurrences t
@@ -48,7 +49,7 @@ at_one f t = at_node f (t ∷ []) ∙ append-nil (occurrences t)
 at_two : (f : ℕ) (t u : Term) → occurrences (term.Node f (t ∷ u ∷ [])) ≡ occurrences t ++ occurrences u
 at_two f t u = at_node f (t ∷ u ∷ []) ∙ ap (λ ns. occurrences t ++ ns) (append-nil (occurrences u))
 
-at_atom : (a : ℕ) → occurrences (term.Atom a) ≡ []
+pub at_atom : (a : ℕ) → occurrences (term.Atom a) ≡ []
 at_atom a = fold-Atom (List ℕ) occurrences_step a
 
 at_list : (ts : List Term) (tail : Term) → occurrences (list_term ts tail) ≡ flat_map occurrences ts ++ occurrences tail
@@ -72,7 +73,7 @@ infix_number f = by (f == fixed.comma) (f == fixed.bar)
     by false false = refl
 
 mutual
-  same_numbers : (t : Tree) → occurrences (term_of t) ≡ numbers_in (words t)
+  pub same_numbers : (t : Tree) → occurrences (term_of t) ≡ numbers_in (words t)
   same_numbers (number n) = fold-Int (List ℕ) occurrences_step _
   same_numbers (negative n) = fold-Int (List ℕ) occurrences_step _
   same_numbers (variable v) = fold-Var (List ℕ) occurrences_step v
@@ -122,17 +123,6 @@ old_number n p l = ap (λ b. if b then below n else below n ++ p ∷ []) (in_bel
 
 new_number : (n : ℕ) → with_new (below n) n ≡ below (suc n)
 new_number n = ap (λ b. if b then below n else below n ++ n ∷ []) (not_below n n (omega arith))
-
-position_within : (p : ℕ → Bool) (xs : List ℕ) → list_any p xs ≡ true → position_or_len p xs < length xs
-position_within p [] e = absurd (clash e)
-  where
-    clash : false ≡ true → ⊥
-    clash d = cc
-position_within p (x ∷ xs) e = by (p x) e (position_within p xs)
-  where
-    by : (b : Bool) → (b || list_any p xs) ≡ true → (list_any p xs ≡ true → position_or_len p xs < length xs) → cond (not b) (1 + position_or_len p xs) 0 < suc (length xs)
-    by true d rest = omega arith
-    by false d rest = omega (arith, rest d)
 
 one_longer : (v : ℕ) (seen : List ℕ) → length (seen ++ v ∷ []) ≡ suc (length seen)
 one_longer v seen = length-append seen (v ∷ []) ∙ omega arith

@@ -30,7 +30,7 @@ left_limit_of Yfx p = omega arith
 left_limit_of Fy p = omega arith
 left_limit_of Fx p = omega arith
 
-left_le : (o : Op) → left_limit o ≤ o.priority
+pub left_le : (o : Op) → left_limit o ≤ o.priority
 left_le o = left_limit_of o.kind o.priority
 
 abbrev limit_or : Option Op → ℕ

@@ -1,5 +1,6 @@
 pub mod Roles
 pub mod Derivations
+pub mod ReadingBack
 pub mod Readings
 pub mod Changes
 pub mod Sentences

@@ -2,7 +2,10 @@
 ghost use Rattle.std.specs.Prelude.{ℕ, List};
 ghost use Rattle.term_core.specs.Standard.{IsMade};
 ghost use Rattle.term_core.specs.declared.operators.Operators.{Operators};
+ghost use Rattle.ciao_reader.specs.ReadingBack.{ReadsBack};
 ghost use Rattle.ciao_reader.specs.Laws.{OneReading, OneSource, NoFault, OneFault, OneGoal, NoGoalFault, OneGoalFault, EveryText, EveryGoal, NumberedFromZero};
+
+use ciao_tokens::written_law;
 
 /// Tokens have at most one derivation of priority 1200 or less, by each table of operators that can be made.
 pub fn one_reading_law()
@@ -38,3 +41,10 @@ pub fn every_goal_law()
 pub fn numbers_law()
     ensures { NumberedFromZero }
 {}
+
+/// What is printed of a term with quotes is read again as that term, by each table of operators that can be made.
+pub fn reading_back_law()
+    ensures { ReadsBack }
+{
+    written_law();
+}

@@ -1,11 +1,14 @@
 // The reader: tokens cut into sentences, each read with the operators that those before it leave.
-ghost use Rattle.std.specs.Prelude.{◌≡◌, ◌+◌, false, IfOk, IfErr, MatchOption, IfSome, Some, List, ◌<◌, length, take, drop};
+ghost use Rattle.std.specs.Prelude.{◌≡◌, ◌+◌, true, false, IfOk, IfErr, MatchOption, MatchResult, IfSome, Some, List, ◌<◌, length, take, drop};
 ghost use Rattle.std.specs.List.{list_any};
 ghost use Rattle.ciao_reader.specs.Sentences.{ends, is_end, line_of, is_large, is_sign, large_line, Splits, IsAlone, IsSentence, ReadsAll, IsGoal, HasSentences, HasGoal};
 ghost use Rattle.ciao_reader.specs.Faults.{IsUnreadOr, IsWrongOr, FirstFaultOr, FailsAsGoalOr, as_read, IsFaultOf, IsGoalFaultOf};
 ghost use Rattle.ciao_reader.specs.Changes.{table_after};
 ghost use Rattle.term_core.specs.Standard.{standard};
 ghost use Rattle.term_core.specs.Names.{IsPrefix};
+ghost use Rattle.term_core.specs.Printing.{Printed};
+ghost use Rattle.term_core.specs.declared.terms.Term.{Term};
+ghost use Rattle.ciao_reader.specs.ReadingBack.{is_readable, numbered_from_zero, IsShallow};
 
 use crate::changes::after_sentence;
 use crate::parts::DEPTH_LIMIT;
@@ -13,7 +16,7 @@ use crate::reading::read_words;
 use crate::scan::roles;
 use crate::sentences::{ReadFault, Sentence, Source};
 use crate::words::Word;
-use ciao_tokens::{TextFault, Token, TokenKind, tokens};
+use ciao_tokens::{TextFault, Token, TokenKind, tokens, written_law};
 use sqlite_items::Items;
 use std::alloc::Global;
 use term_core::{Names, OpFault, OpTable};
@@ -209,12 +212,32 @@ pub fn read_sentences(alloc: Global, names: &mut Names, bytes: &[u8]) -> Result<
     }
 }
 
-/// The one term of a text, with its end or without it, by these operators.
+/// The one term of a text, with its end or without it, by these operators. What is printed of a term
+/// with quotes and the same operators is that term, with its variables numbered by first appearance.
 ///
 /// # Errors
 /// Where the text has no tokens, where it is not one sentence, has no derivation, is more than
 /// 4,096 deep or has a number beyond the integers, and where memory is refused.
 pub fn read_goal(
+    alloc: Global,
+    names: &mut Names,
+    ops: &OpTable,
+    text: &str,
+) -> Result<Sentence, ReadFault>
+    ensures ok { IfOk result (HasGoal ops.now text.now names.old names.new) }
+    ensures fault { IfErr result (IsGoalFaultOf ops.now text.now names.old) }
+    ensures kept { IsPrefix names.old names.new }
+    ensures reads_back { (t : Term) → is_readable (length names.old) t ≡ true → text.now ≡ Printed names.old ops.now true t → IsShallow ops.now text.now names.old → MatchResult result (λ goal. goal.term ≡ numbered_from_zero t) (λ fault. fault ≡ ReadFault.NoMemory) }
+{
+    // Each says what holds of all: of names, of tables of operators, of what is written.
+    let _ = names.len();
+    ops.made();
+    written_law();
+    read_text(alloc, names, ops, text)
+}
+
+// The one term of a text.
+fn read_text(
     alloc: Global,
     names: &mut Names,
     ops: &OpTable,

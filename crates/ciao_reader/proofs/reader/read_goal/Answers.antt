@@ -1,21 +1,7 @@
-use Rattle.std.proofs.Common.{sym, subst}
-use Rattle.ciao_tokens.specs.Faults as token_faults
-use Rattle.ciao_tokens.specs.Tokens.{HasTokens}
-use Rattle.ciao_reader.specs.Faults.{FailsAsGoalOr, IsGoalFaultOf}
-use Rattle.ciao_reader.proofs.TextFaults.{tokens_goal_fault, goal_fault}
-use Rattle.std.proofs.lemmas.Result.{IfErr-weaker}
+use Rattle.ciao_reader.proofs.ReadBackAnswers.{are_names, answers}
 use Rattle.ciao_reader.proofs.reader.read_goal.Goals as goal
 
-pub returns-in-Ok-clause-fault : goal.returns-in-Ok-clause-fault
-returns-in-Ok-clause-fault c =
-    IfErr-weaker c.read_alone.result _ _
-    (λ fault w. goal_fault c.args.text.now c.args.names.now c.tokens.new.names c.in-Ok.tokens
-    (subst (λ bytes. HasTokens bytes c.args.names.now c.tokens.new.names c.in-Ok.tokens) c.as_bytes.ensures.value c.in-Ok.ensures.ok) c.args.ops.now fault
-    (subst (λ ts. FailsAsGoalOr c.tokens.new.names c.args.ops.now ts fault) c.as_slice.ensures w))
-    c.read_alone.ensures.err
-
-pub returns-in-Err-clause-fault : goal.returns-in-Err-clause-fault
-returns-in-Err-clause-fault c =
-    subst (IsGoalFaultOf c.args.ops.now c.args.text.now c.args.names.now) (sym c.of_text.ensures)
-    (tokens_goal_fault c.args.text.now c.args.names.now c.args.ops.now c.in-Err.fault
-    (subst (λ bytes. token_faults.IsFaultOf bytes c.in-Err.fault) c.as_bytes.ensures.value c.in-Err.ensures.fault))
+pub returns-clause-reads_back : goal.returns-clause-reads_back
+returns-clause-reads_back c t readable is shallow =
+    answers c.written_law.ensures c.args.names.now c.args.ops.now (are_names c.args.names.now c.len.ensures.begins c.len.ensures.distinct c.len.ensures.utf8) c.made.ensures c.args.text.now t readable is shallow
+    c.read_text.new.names c.read_text.result c.read_text.ensures.ok c.read_text.ensures.fault
