@@ -211,7 +211,7 @@ module _ (one_run : (text : Text) (r : Reading) (program : Program) (bound : ℕ
   call_one program query bound t t' s s' (inner.NotExported n l r) (inner.Ran es e run l' r') = absurd (none-some run.1.pred (sym n ∙ run.1.calls))
   call_one program query bound t t' s s' (inner.Ran es e run l r) (inner.NotExported n l' r') = absurd (none-some run.1.pred (sym n ∙ run.1.calls))
   call_one program query bound t t' s s' (inner.Ran es e run l r) (inner.Ran es' e' run' l' r') =
-      let same : (es ≡ es') × (e ≡ e') = runs_one (λ quoted. Printed program.names) program query bound es es' e e' run run' in
+      let same : (es ≡ es') × (e ≡ e') = runs_one (λ quoted. Printed program.names program.ops quoted) program query bound es es' e e' run run' in
       (l ∙ ap (λ x. RunText program x e) same.0 ∙ ap (RunText program es') same.1 ∙ sym l', r ∙ ap ending_status same.1 ∙ sym r')
 
   query_one : (program : Program) (ops : Operators) → IsMade ops → (command : RunWords) (t t' : Word) (s s' : ℕ) → QueryAnswers program ops command t s → QueryAnswers program ops command t' s' → (t ≡ t') × (s ≡ s')
@@ -245,7 +245,7 @@ module _ (ends : (text : Text) (r : Reading) (program : Program) → Ends text r
   call_some : (program : Program) (query : Term) (bound : ℕ) (called : Option ℕ) → called_by program query ≡ called → ((text : Word) (status : ℕ) → CallAnswers program query bound text status → ⊥) → ⊥
   call_some program query bound None none never = never (fault_line (codes "query not exported")) 4 (inner.NotExported none refl refl)
   call_some program query bound (Some p) calls never =
-      let found = ends (λ quoted. Printed program.names) (every_condition program) program bound (start_of p query) in
+      let found = ends (λ quoted. Printed program.names program.ops quoted) (every_condition program) program bound (start_of p query) in
       never (RunText program found.0 found.2) (ending_status found.2)
       (inner.Ran found.0 found.2 (found.1, record { pred = p; calls = calls; runs = found.3 }) refl refl)
 

@@ -16,21 +16,21 @@ module _ (program : Program) (bound : ℕ) where
   record Rest (p : Phase) : Type 0 where
     pub events : List Event
     pub ending : Ending
-    pub continues : Continues (λ quoted. Printed program.names) (every_condition program) program bound p events ending
+    pub continues : Continues (λ quoted. Printed program.names program.ops quoted) (every_condition program) program bound p events ending
 
   -- from each phase on a run ends
   rest_of : (p : Phase) → Rest p
   rest_of (Going s) =
-      let found = ends (λ quoted. Printed program.names) (every_condition program) program bound s in
+      let found = ends (λ quoted. Printed program.names program.ops quoted) (every_condition program) program bound s in
       record { events = found.0; ending = found.2; continues = (found.1, found.3) }
   rest_of (Over e) = record { events = []; ending = e; continues = (refl, refl) }
 
   -- and in one way
   one_rest : (p : Phase) (events events' : List Event) (e e' : Ending)
-      → Continues (λ quoted. Printed program.names) (every_condition program) program bound p events e
-      → Continues (λ quoted. Printed program.names) (every_condition program) program bound p events' e' → events ≡ events'
+      → Continues (λ quoted. Printed program.names program.ops quoted) (every_condition program) program bound p events e
+      → Continues (λ quoted. Printed program.names program.ops quoted) (every_condition program) program bound p events' e' → events ≡ events'
   one_rest (Going s) events events' e e' a b =
-      (one_run (λ quoted. Printed program.names) (every_condition program) program bound s events events' a.0 b.0 e e' a.1 b.1).0
+      (one_run (λ quoted. Printed program.names program.ops quoted) (every_condition program) program bound s events events' a.0 b.0 e e' a.1 b.1).0
   one_rest (Over o) events events' e e' a b = a.0 ∙ sym b.0
 
   -- the number of events that are left
@@ -38,7 +38,7 @@ module _ (program : Program) (bound : ℕ) where
   events_left None = 0
   events_left (Some p) = length (rest_of p).events
 
-  fewer_at : (before after : Phase) (event : Event) → Tells (λ quoted. Printed program.names) (every_condition program) program bound before event after
+  fewer_at : (before after : Phase) (event : Event) → Tells (λ quoted. Printed program.names program.ops quoted) (every_condition program) program bound before event after
       → length (rest_of after).events < length (rest_of before).events
   fewer_at before after event tells =
       let old = rest_of before in

@@ -29,7 +29,7 @@ same_some a b o x y = cc
 module _ (program : Program) (bound : ℕ) where
   -- what comes from a phase on, with the text of this program's terms
   abbrev pub Comes_from : Phase → List Event → Ending → Type 0
-  Comes_from = Continues (λ quoted. Printed program.names) (every_condition program) program bound
+  Comes_from = Continues (λ quoted. Printed program.names program.ops quoted) (every_condition program) program bound
 
   -- the next event of a run that is at a phase
   pub record IsNextAt (old : Option Phase) (event : Event) (new : Option Phase) : Type 0 where
@@ -37,11 +37,11 @@ module _ (program : Program) (bound : ℕ) where
     pub after : Phase
     pub was : old ≡ Some before
     pub is : new ≡ Some after
-    pub next : IsNext (λ quoted. Printed program.names) (every_condition program) program bound before event after
+    pub next : IsNext (λ quoted. Printed program.names program.ops quoted) (every_condition program) program bound before event after
 
   -- an event and then what comes behind it
   tells_written : (o n : Option Phase) (before after : Phase) (event : Event) (old new : Option Word) → o ≡ Some before → n ≡ Some after
-      → Tells (λ quoted. Printed program.names) (every_condition program) program bound before event after
+      → Tells (λ quoted. Printed program.names program.ops quoted) (every_condition program) program bound before event after
       → new ≡ grown old (event_text program event) → HasWritten (RunTells program bound o) (RunTells program bound n) old new
   tells_written o n before after event old new was is tells grew = record {
     piece = event_text program event;
@@ -86,7 +86,7 @@ module _ (program : Program) (bound : ℕ) where
   }) grew
 
   tells_begun : (o : Option Phase) (before after : Phase) (event : Event) (old new : Option Word) → o ≡ Some before
-      → Tells (λ quoted. Printed program.names) (every_condition program) program bound before event after
+      → Tells (λ quoted. Printed program.names program.ops quoted) (every_condition program) program bound before event after
       → GrewByPrefix old new (event_text program event) → HasBegun (RunTells program bound o) old new
   tells_begun o before after event old new was tells g = record {
     piece = take g.0 (event_text program event);
@@ -134,13 +134,13 @@ pub told_at : (program : Program) (old new : engine.Run) (event : Event) → pro
     → IsNextAt program (bound_of old) (phase_of old) event (phase_of new)
 told_at program old new event same told =
     subst (λ p. IsNextAt p (bound_of old) (phase_of old) event (phase_of new)) same
-    (record { before = told.before; after = told.after; was = told.was; is = told.is; next = told.next (λ quoted. Printed (program_of old).names) })
+    (record { before = told.before; after = told.after; was = told.was; is = told.is; next = told.next (λ quoted. Printed (program_of old).names (program_of old).ops quoted) })
 
 -- the run of a query from its start
 module _ (program : Program) (predicate : ℕ) (query : Term) (bound : ℕ) (calls : called_by program query ≡ Some predicate) where
   to_call : (phase : Option Phase) → phase ≡ Some (Going (start_of predicate query)) → (text : Word) (status : ℕ) → RunTells program bound phase text status → CallAnswers program query bound text status
   to_call phase start text status x =
-      let runs : (tests : ℕ) × RunsFrom (λ quoted. Printed program.names) (every_condition program) program bound (start_of predicate query) x.events tests x.ending =
+      let runs : (tests : ℕ) × RunsFrom (λ quoted. Printed program.names program.ops quoted) (every_condition program) program bound (start_of predicate query) x.events tests x.ending =
       subst (λ p. Comes_from program bound p x.events x.ending) (same_some x.now (Going (start_of predicate query)) phase x.is_now start) x.continues in
       Ran x.events x.ending (runs.0, record { pred = predicate; calls = calls; runs = runs.1 }) x.text_is x.status_is
 
@@ -151,7 +151,7 @@ module _ (program : Program) (predicate : ℕ) (query : Term) (bound : ℕ) (cal
     is_now = start;
     events = events;
     ending = e;
-    continues = (run.0, subst (λ p. RunsFrom (λ quoted. Printed program.names) (every_condition program) program bound (start_of p query) events run.0 e) (same_some run.1.pred predicate (called_by program query) run.1.calls calls) run.1.runs);
+    continues = (run.0, subst (λ p. RunsFrom (λ quoted. Printed program.names program.ops quoted) (every_condition program) program bound (start_of p query) events run.0 e) (same_some run.1.pred predicate (called_by program query) run.1.calls calls) run.1.runs);
     text_is = text_is;
     status_is = status_is;
   }

@@ -32,7 +32,7 @@ pub data QueryAnswers (program : Program) (ops : Operators) (command : RunWords)
       → called_by (with_names names program) query ≡ None
       → text ≡ fault_line (codes "query not exported") → status ≡ 4 → QueryAnswers program ops command text status
   Ran : (names : List Word) (query : Term) → IsQuery ops program.names command.query names query
-      → (events : List Event) (e : Ending) → Run (λ quoted. Printed names) (with_names names program) query command.steps events e
+      → (events : List Event) (e : Ending) → Run (λ quoted. Printed names program.ops quoted) (with_names names program) query command.steps events e
       → text ≡ RunText (with_names names program) events e → status ≡ ending_status e → QueryAnswers program ops command text status
 
 -- the text and the status of a unit: the least line that names a predicate without clauses, or the answers of its program

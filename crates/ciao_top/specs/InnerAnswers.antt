@@ -62,7 +62,7 @@ pub record RunTells (program : Program) (bound : ℕ) (phase : Option Phase) (te
   pub is_now : phase ≡ Some now
   pub events : List Event
   pub ending : Ending
-  pub continues : Continues (λ quoted. Printed program.names) (every_condition program) program bound now events ending
+  pub continues : Continues (λ quoted. Printed program.names program.ops quoted) (every_condition program) program bound now events ending
   pub text_is : text ≡ RunText program events ending
   pub status_is : status ≡ ending_status ending
 
@@ -73,13 +73,13 @@ pub record GoesOn (program : Program) (bound : ℕ) (old new : Option Phase) : T
   pub event : Event
   pub was : old ≡ Some before
   pub is : new ≡ Some after
-  pub tells : Tells (λ quoted. Printed program.names) (every_condition program) program bound before event after
+  pub tells : Tells (λ quoted. Printed program.names program.ops quoted) (every_condition program) program bound before event after
 
 -- the text and the status of a query that was read
 pub data CallAnswers (program : Program) (query : Term) (bound : ℕ) (text : Word) (status : ℕ) : Type 0 where
   NotExported : called_by program query ≡ None
       → text ≡ fault_line (codes "query not exported") → status ≡ 4 → CallAnswers program query bound text status
-  Ran : (events : List Event) (e : Ending) → Run (λ quoted. Printed program.names) program query bound events e
+  Ran : (events : List Event) (e : Ending) → Run (λ quoted. Printed program.names program.ops quoted) program query bound events e
       → text ≡ RunText program events e → status ≡ ending_status e → CallAnswers program query bound text status
 
 -- how a run of accepted words comes out

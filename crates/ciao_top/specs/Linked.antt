@@ -2,6 +2,8 @@
 use Rattle.std.specs.Prelude.{ℕ, min, Bool, false, not, List, [], ◌∷◌, ◌++◌, map, filter, Option, Some, None, if◌then◌else◌}
 use Rattle.std.specs.Option.{option_map_or}
 use Rattle.std.specs.List.{list_any, position_or_len}
+use Rattle.term_core.specs.Standard.{standard}
+use Rattle.term_core.specs.declared.operators.Operators.{Operators}
 use Rattle.term_core.specs.declared.terms.Term.{Term, out-Term}
 use Rattle.prog_data.specs.declared.goals.Goal.{Goal}
 use Rattle.prog_data.specs.declared.goals.Goal as goal
@@ -106,12 +108,13 @@ pred_with m key = record {
   call_checks = [];
 }
 
--- the program of a unit; each export has the entry without a precondition
-abbrev pub program_of : Unit → Program
-program_of m =
+-- the program of a unit, whose texts are printed with these operators; each export has the entry without a precondition
+abbrev pub program_with : Operators → Unit → Program
+program_with ops m =
     let exported = map (pred_number (keys_of m)) m.exports in
     record {
       names = m.names;
+      ops = ops;
       files = m.file ∷ [];
       preds = map (pred_with m) (keys_of m);
       conds = unit_conditions m;
@@ -120,6 +123,10 @@ program_of m =
       exports = exported;
       entries = map (λ p. record { pred = p; pre = [] }) exported;
     }
+
+-- the program of a unit, whose texts are printed with the standard operators
+abbrev pub program_of : Unit → Program
+program_of m = program_with standard m
 
 -- predicates without clauses
 

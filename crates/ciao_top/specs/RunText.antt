@@ -1,6 +1,8 @@
 -- The text and the status of a run, from its events and its ending.
-use Rattle.std.specs.Prelude.{ℕ, List, [], ◌∷◌, ◌++◌, flat_map, slice_get, Option, None, Some, codes, decimal}
+use Rattle.std.specs.Prelude.{ℕ, true, List, [], ◌∷◌, ◌++◌, flat_map, slice_get, Option, None, Some, codes, decimal}
 use Rattle.term_core.specs.Printing.{Printed, name_text}
+use Rattle.term_core.specs.declared.terms.Term.{Term}
+use Rattle.term_core.specs.declared.terms.Term as term
 use Rattle.prog_data.specs.declared.programs.Place.{Place}
 use Rattle.prog_data.specs.declared.programs.Program.{Program}
 use Rattle.prog_data.specs.declared.conditions.Cond.{Cond}
@@ -36,13 +38,17 @@ arithmetic_words Unbound = codes "unbound operand"
 arithmetic_words NotNumber = codes "not a number"
 
 module _ (program : Program) where
+  -- the text of a term, with quotes
+  abbrev pub quoted_text : Term → Word
+  quoted_text t = Printed program.names program.ops true t
+
   -- a place: the file, a colon and the line
   abbrev pub place_text : Place → Word
   place_text place = name_text program.names place.file ++ 58 ∷ decimal place.line
 
   -- a predicate: its name, a slash and its arity
   abbrev pub pred_text : ℕ → Word
-  pred_text p = name_text program.names (pred_of program p).name ++ 47 ∷ decimal (pred_of program p).arity
+  pred_text p = quoted_text (term.Atom (pred_of program p).name) ++ 47 ∷ decimal (pred_of program p).arity
 
   -- the line of a condition that was broken
   abbrev pub violated_text : Option Cond → Word
@@ -60,7 +66,7 @@ module _ (program : Program) where
   -- the text of an event
   abbrev pub event_text : Event → Word
   event_text (Out text) = text
-  event_text (Answer query) = line (codes "answer: " ++ Printed program.names query)
+  event_text (Answer query) = line (codes "answer: " ++ quoted_text query)
   event_text (End e) = ending_text e
 
   -- the text of a run: its events in order, and its ending

@@ -1,9 +1,10 @@
 // The lines and texts that are written.
 ghost use Rattle.std.specs.Prelude.{◌≡◌, ◌++◌, ◌∷◌, [], Option, Some, IfOk, OnOk, codes, decimal, string_bytes, slice_get};
-ghost use Rattle.term_core.specs.Printing.{Printed, name_text};
+ghost use Rattle.term_core.specs.Printing.{name_text};
+ghost use Rattle.term_core.specs.declared.terms.Term as term;
 ghost use Rattle.prog_data.specs.Goals.{pred_of};
 ghost use Rattle.ciao_top.specs.Lines.{fault_line, file_fault, read_fault, fault_at, fault_word};
-ghost use Rattle.ciao_top.specs.RunText.{line, kind_word, arithmetic_words, place_text, pred_text, violated_text, ending_text, event_text};
+ghost use Rattle.ciao_top.specs.RunText.{line, quoted_text, kind_word, arithmetic_words, place_text, pred_text, violated_text, ending_text, event_text};
 
 use crate::words::behind_slash;
 use ciao_reader::ReadFault;
@@ -119,16 +120,23 @@ fn push_place(program: &Program, place: Place, out: &mut String) -> Result<(), N
     push_number(place.line, out)
 }
 
+// Appends the text of a term, with quotes.
+fn push_term(program: &Program, term: &Term, out: &mut String) -> Result<(), NoMemory>
+    ensures { OnOk result (string_bytes out.new ≡ string_bytes out.old ++ quoted_text program.now term.now) }
+{
+    print_term(&program.names, &program.ops, term, true, out)
+}
+
 // Appends a name, a slash and an arity.
 fn push_name_with_arity(
-    names: &Names,
+    program: &Program,
     name: u64,
     arity: u64,
     out: &mut String,
 ) -> Result<(), NoMemory>
-    ensures { OnOk result (string_bytes out.new ≡ string_bytes out.old ++ (name_text names.now name ++ 47 ∷ decimal arity)) }
+    ensures { OnOk result (string_bytes out.new ≡ string_bytes out.old ++ (quoted_text program.now (term.Atom name) ++ 47 ∷ decimal arity)) }
 {
-    push_name(names, name, out)?;
+    push_term(program, &Term::Atom(name), out)?;
     out.push_str("/")?;
     push_number(arity, out)
 }
@@ -138,8 +146,8 @@ fn push_pred(program: &Program, pred: u64, out: &mut String) -> Result<(), NoMem
     ensures { OnOk result (string_bytes out.new ≡ string_bytes out.old ++ pred_text program.now pred) }
 {
     match program.preds.get(pred as usize) {
-        Some(pred) => push_name_with_arity(&program.names, pred.name, pred.arity, out),
-        None => push_name_with_arity(&program.names, 0, 0, out),
+        Some(pred) => push_name_with_arity(program, pred.name, pred.arity, out),
+        None => push_name_with_arity(program, 0, 0, out),
     }
 }
 
@@ -234,10 +242,10 @@ fn ending_text(alloc: Global, program: &Program, ending: &Ending) -> Result<Stri
 
 // The line of an answer.
 fn answer_text(alloc: Global, program: &Program, query: &Term) -> Result<String, NoMemory>
-    ensures { IfOk result (λ text. string_bytes text ≡ line (codes "answer: " ++ Printed program.now.names query.now)) }
+    ensures { IfOk result (λ text. string_bytes text ≡ line (codes "answer: " ++ quoted_text program.now query.now)) }
 {
     let mut text = String::from_str(alloc, "answer: ")?;
-    print_term(&program.names, query, &mut text)?;
+    push_term(program, query, &mut text)?;
     text.push_str("\n")?;
     Ok(text)
 }

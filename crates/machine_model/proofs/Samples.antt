@@ -1,6 +1,7 @@
 -- Small programs to compute with.
 use Rattle.std.specs.Prelude.{ℕ, Bool, List, [], ◌∷◌, map, pos}
 use Rattle.term_core.specs.declared.terms.Term.{Term, Var, Int, Atom, Node}
+use Rattle.term_core.specs.Standard.{standard}
 use Rattle.prog_data.specs.declared.goals.Goal as goal
 use Rattle.prog_data.specs.declared.goals.Goal.{Goal}
 use Rattle.prog_data.specs.declared.programs.Place.{Place}
@@ -50,7 +51,7 @@ abbrev pub cond : ℕ → ℕ → ℕ → CondKind → Cond
 cond id of line k = record { id = id; pred = of; place = at line; kind = k }
 
 abbrev pub program : List Pred → List Cond → List ℕ → Program
-program preds conds exports = record { names = []; files = []; preds = preds; conds = conds; claims = []; grammar = record { rules = basic_rules }; exports = exports; entries = map (λ e. record { pred = e; pre = [] }) exports }
+program preds conds exports = record { names = []; ops = standard; files = []; preds = preds; conds = conds; claims = []; grammar = record { rules = basic_rules }; exports = exports; entries = map (λ e. record { pred = e; pre = [] }) exports }
 
 -- v: p(X) takes an int or an atm. p(_).
 abbrev pub v : Program

@@ -1,7 +1,7 @@
 // Linked programs.
 use crate::{Cond, Goal, Grammar, Prop};
 use sqlite_items::Items;
-use term_core::{Names, Term};
+use term_core::{Names, OpTable, Term};
 
 /// A line of a file, the file as a name.
 #[derive(Clone, Copy, Drop, Debug)]
@@ -67,6 +67,8 @@ pub struct Entry {
 #[derive(Drop)]
 pub struct Program {
     pub names: Names,
+    /// The operators with which texts are printed.
+    pub ops: OpTable,
     pub files: Items<u64>,
     pub preds: Items<Pred>,
     pub conds: Items<Cond>,

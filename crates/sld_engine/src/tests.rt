@@ -6,7 +6,7 @@ use prog_data::{
 use sqlite_items::Items;
 use std::alloc::Global;
 use std::test::Fail;
-use term_core::{Names, NoMemory, Term, depth};
+use term_core::{Names, NoMemory, OpTable, Term, depth};
 
 // A clause of n/1, at this line.
 fn clause(
@@ -64,6 +64,7 @@ fn program(
     exports.push(0)?;
     Ok(Program {
         names: Names::new(alloc)?,
+        ops: OpTable::standard(alloc)?,
         files: Items::new(alloc),
         preds,
         conds: conditions,

@@ -1,4 +1,4 @@
-// The conditions that the assertions of a plain file give.
+// The conditions that the assertions of a unit give.
 ghost use Rattle.std.specs.Prelude.{◌≡◌, ◌++◌, map, filter, length, IfOk, OnOk};
 ghost use Rattle.ciao_top.specs.Conditions.{is_about, has_post, place_of, success_conditions, conditions_of, conditions_from, numbers_of};
 ghost use Rattle.ciao_top.specs.Linked.{assertions_of};

@@ -7,7 +7,7 @@ ghost use Rattle.prog_data.specs.Goals.{parts_of};
 ghost use Rattle.sld_engine.specs.Built.{is_built};
 ghost use Rattle.ciao_top.specs.Keys.{key_of};
 ghost use Rattle.ciao_top.specs.SentenceTerms.{goals_of, clause_goals};
-ghost use Rattle.ciao_top.specs.Linked.{with_key, keys_with, pred_number, is_defined, call_of, goal_of, body_of, clause_of, is_clause_of, clauses_of, keys_of, unit_conditions, pred_with, program_of, names_undefined, sentence_line, undefined_lines, least, linked};
+ghost use Rattle.ciao_top.specs.Linked.{with_key, keys_with, pred_number, is_defined, call_of, goal_of, body_of, clause_of, is_clause_of, clauses_of, keys_of, unit_conditions, pred_with, program_with, program_of, names_undefined, sentence_line, undefined_lines, least, linked};
 
 use crate::units::clauses::{Body, ReadClause};
 use crate::units::conditions::{conditions_from, numbers_of};
@@ -16,7 +16,7 @@ use crate::units::sentences::{LinkResult, ReadSentence, Unit};
 use prog_data::{Clause, Cond, Entry, Goal, Place, Pred, Program, basic_grammar};
 use sqlite_items::{Boxed, Items};
 use std::alloc::Global;
-use term_core::{NoMemory, Term, copy};
+use term_core::{NoMemory, OpTable, Term, copy};
 
 // Whether a predicate has clauses.
 fn is_defined(keys: &[Key], key: Key) -> bool
@@ -232,6 +232,20 @@ fn with_program(alloc: Global, unit: Unit, keys: &[Key]) -> Result<LinkResult, N
     requires { keys.now ≡ keys_of unit }
     ensures { IfOk result (λ answer. answer ≡ LinkResult.Program (program_of unit) unit.ops) }
 {
+    let standard = OpTable::standard(alloc)?;
+    printed_with(alloc, unit, keys, standard)
+}
+
+// The program of a unit, whose texts are printed with these operators.
+fn printed_with(
+    alloc: Global,
+    unit: Unit,
+    keys: &[Key],
+    printed: OpTable,
+) -> Result<LinkResult, NoMemory>
+    requires { keys.now ≡ keys_of unit }
+    ensures { IfOk result (λ answer. answer ≡ LinkResult.Program (program_with printed unit) unit.ops) }
+{
     let mut files = Items::new(alloc);
     files.push(unit.file)?;
     let conds = conditions_from(alloc, unit.file, unit.sentences.as_slice(), keys)?;
@@ -242,6 +256,7 @@ fn with_program(alloc: Global, unit: Unit, keys: &[Key]) -> Result<LinkResult, N
     let Unit { names, ops, .. } = unit;
     let program = Program {
         names,
+        ops: printed,
         files,
         preds,
         conds,
