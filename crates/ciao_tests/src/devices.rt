@@ -1,5 +1,5 @@
 // Files and a sink that fail: what was written is a prefix.
-use crate::plain::COUNT;
+use crate::clauses::COUNT;
 use crate::runs::words_of;
 use byte_io::{MemFiles, MemSink};
 use ciao_top::run_tool;

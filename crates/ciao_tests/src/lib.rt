@@ -4,11 +4,13 @@
 #[cfg(test)]
 mod assertions;
 #[cfg(test)]
+mod clauses;
+#[cfg(test)]
 mod devices;
 #[cfg(test)]
 mod limits;
 #[cfg(test)]
-mod plain;
+mod printing;
 #[cfg(test)]
 mod properties;
 #[cfg(test)]

@@ -1,5 +1,5 @@
 // The limits of files.
-use crate::plain::COUNT;
+use crate::clauses::COUNT;
 use crate::runs::run_file;
 use std::alloc::{AllocError, Global};
 use std::test::Fail;
@@ -109,6 +109,26 @@ fn arity_of_a_compound(rt: HostRuntime) -> Result<(), Fail> {
     )?;
     assert_eq!(rt; refused.bytes(), "fault: c.pl:2 Syntax\n".as_bytes());
     assert_eq!(rt; status, 3);
+    Ok(())
+}
+
+#[test]
+fn limits_of_a_query(rt: HostRuntime) -> Result<(), Fail> {
+    let alloc = rt.alloc();
+    let read = "fault: query not exported\n";
+    let unread = "fault: query unread\n";
+    for (before, piece, times, behind, written) in [
+        ("f(a", ",a", 254, ")", read),
+        ("f(a", ",a", 255, ")", unread),
+        ("[a", ",a", 4094, "]", read),
+        ("[a", ",a", 4095, "]", unread),
+        ("", "- ", 4095, "a", read),
+        ("", "- ", 4096, "a", unread),
+    ] {
+        let query = repeated(alloc, before, piece, times, behind)?;
+        let (out, _) = run_file(&rt, alloc, COUNT.as_bytes(), &query, "1")?;
+        assert_eq!(rt; out.bytes(), written.as_bytes());
+    }
     Ok(())
 }
 

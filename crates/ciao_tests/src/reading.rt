@@ -2,13 +2,13 @@
 use crate::runs::{Case, run_file};
 use std::test::Fail;
 
-const CASES: [Case; 84] = [
-    // operators are names of compounds
+const CASES: [Case; 87] = [
+    // operators are read and printed
     Case {
         text: ":- module(c,[p/1]).\np(a - b).\np(- 1).\np(-1).\np(x = y).\n",
         query: "p(X)",
         steps: "1000",
-        written: "answer: p(-(a,b))\nanswer: p(-(1))\nanswer: p(-1)\nanswer: p(=(x,y))\nend: no more answers\n",
+        written: "answer: p(a - b)\nanswer: p(- 1)\nanswer: p(-1)\nanswer: p(x = y)\nend: no more answers\n",
         status: 0,
     },
     Case {
@@ -22,7 +22,7 @@ const CASES: [Case; 84] = [
         text: ":- module(c,[p/1]).\np(a - b - c).\n",
         query: "p(a - b - X)",
         steps: "1000",
-        written: "answer: p(-(-(a,b),c))\nend: no more answers\n",
+        written: "answer: p(a - b - c)\nend: no more answers\n",
         status: 0,
     },
     // operators of the file count for the sentences behind them and for the query
@@ -80,15 +80,37 @@ const CASES: [Case; 84] = [
         text: ":- module(c,[p/1]).\np('it''s').\n",
         query: "p('it\\'s')",
         steps: "1000",
-        written: "answer: p(it's)\nend: no more answers\n",
+        written: "answer: p('it\\'s')\nend: no more answers\n",
         status: 0,
     },
     Case {
         text: ":- module(c,[p/1]).\np({}).\np({a}).\np('[]').\n",
         query: "p(X)",
         steps: "1000",
-        written: "answer: p({})\nanswer: p({}(a))\nanswer: p([])\nend: no more answers\n",
+        written: "answer: p({})\nanswer: p({a})\nanswer: p([])\nend: no more answers\n",
         status: 0,
+    },
+    Case {
+        text: ":- module(c,[p/1]).\np('a b'('\\n',\"\",{},{x})).\n",
+        query: "p(X)",
+        steps: "1000",
+        written: "answer: p('a b'('\\n',[],{},{x}))\nend: no more answers\n",
+        status: 0,
+    },
+    // a predicate is told with quotes where it needs them
+    Case {
+        text: ":- module(c,['a b'/1]).\n:- pred 'a b'(X) : int(X).\n'a b'(1).\n",
+        query: "'a b'(b)",
+        steps: "1000",
+        written: "end: violated c.pl:2 calls 'a b'/1\n",
+        status: 1,
+    },
+    Case {
+        text: ":- module(c,[(-)/2]).\n:- pred X - Y => int(Y).\n1 - a.\n",
+        query: "X - Y",
+        steps: "1000",
+        written: "end: violated c.pl:2 success -/2\n",
+        status: 1,
     },
     // the module's name may be a variable
     Case {
@@ -359,21 +381,21 @@ const CASES: [Case; 84] = [
         text: ":- module(c,[p/1]).\np(a - (b - c)).\n",
         query: "p(X)",
         steps: "1000",
-        written: "answer: p(-(a,-(b,c)))\nend: no more answers\n",
+        written: "answer: p(a - (b - c))\nend: no more answers\n",
         status: 0,
     },
     Case {
         text: ":- module(c,[p/1]).\np(- - 1).\n",
         query: "p(X)",
         steps: "1000",
-        written: "answer: p(-(-(1)))\nend: no more answers\n",
+        written: "answer: p(- - 1)\nend: no more answers\n",
         status: 0,
     },
     Case {
         text: ":- module(c,[p/1]).\np(\\+ a = b).\n",
         query: "p(X)",
         steps: "1000",
-        written: "answer: p(\\+(=(a,b)))\nend: no more answers\n",
+        written: "answer: p(\\+ a = b)\nend: no more answers\n",
         status: 0,
     },
     Case {
@@ -387,14 +409,14 @@ const CASES: [Case; 84] = [
         text: ":- module(c,[p/1]).\np(X =(a,b)).\n",
         query: "p(X)",
         steps: "1000",
-        written: "answer: p(=(_1,,(a,b)))\nend: no more answers\n",
+        written: "answer: p(_1 = (a,b))\nend: no more answers\n",
         status: 0,
     },
     Case {
         text: ":- module(c,[p/1]).\np(- (1)).\n",
         query: "p(X)",
         steps: "1000",
-        written: "answer: p(-(1))\nend: no more answers\n",
+        written: "answer: p(- 1)\nend: no more answers\n",
         status: 0,
     },
     Case {
@@ -415,7 +437,7 @@ const CASES: [Case; 84] = [
         text: ":- module(c,[p/1]).\np(- = x).\n",
         query: "p(X)",
         steps: "1000",
-        written: "answer: p(=(-,x))\nend: no more answers\n",
+        written: "answer: p((-) = x)\nend: no more answers\n",
         status: 0,
     },
     Case {
@@ -429,7 +451,7 @@ const CASES: [Case; 84] = [
         text: ":- module(c,[p/1]).\np((a | b)).\n",
         query: "p(X)",
         steps: "1000",
-        written: "answer: p(|(a,b))\nend: no more answers\n",
+        written: "answer: p((a | b))\nend: no more answers\n",
         status: 0,
     },
     Case {
@@ -450,7 +472,7 @@ const CASES: [Case; 84] = [
         text: ":- module(c,[p/1]).\np(t(- 1, -1, a - -1, \\+ a = b, a - b - c, a - (b - c))).\n",
         query: "p(X)",
         steps: "1000",
-        written: "answer: p(t(-(1),-1,-(a,-1),\\+(=(a,b)),-(-(a,b),c),-(a,-(b,c))))\nend: no more answers\n",
+        written: "answer: p(t(- 1,-1,a - -1,\\+ a = b,a - b - c,a - (b - c)))\nend: no more answers\n",
         status: 0,
     },
     // atoms that are operators, as heads and goals
@@ -465,14 +487,14 @@ const CASES: [Case; 84] = [
         text: ":- module(c,['?-'/1]).\n?- p.\n",
         query: "?- X",
         steps: "1000",
-        written: "answer: ?-(p)\nend: no more answers\n",
+        written: "answer: ?- p\nend: no more answers\n",
         status: 0,
     },
     Case {
         text: ":- module(c,['-->'/2]).\na --> b.\n",
         query: "X --> Y",
         steps: "1000",
-        written: "answer: -->(a,b)\nend: no more answers\n",
+        written: "answer: a --> b\nend: no more answers\n",
         status: 0,
     },
     Case {
@@ -501,14 +523,14 @@ const CASES: [Case; 84] = [
         text: ":- module(c,[p/1]).\n:- op(700,xfy,=).\np(a = b = c).\n",
         query: "p(X)",
         steps: "1000",
-        written: "answer: p(=(a,=(b,c)))\nend: no more answers\n",
+        written: "answer: p(a = (b = c))\nend: no more answers\n",
         status: 0,
     },
     Case {
         text: ":- module(c,[p/1]).\n:- op(300,fx,-).\np(- - 1).\n",
         query: "p(X)",
         steps: "1000",
-        written: "answer: p(-(-,1))\nend: no more answers\n",
+        written: "answer: p((-) - 1)\nend: no more answers\n",
         status: 0,
     },
     Case {

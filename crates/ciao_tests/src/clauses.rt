@@ -298,7 +298,7 @@ const CASES: [Case; 38] = [
 ];
 
 #[test]
-fn runs_of_plain_files(rt: HostRuntime) -> Result<(), Fail> {
+fn runs_without_assertions(rt: HostRuntime) -> Result<(), Fail> {
     let alloc = rt.alloc();
     for case in &CASES {
         let (out, status) = run_file(&rt, alloc, case.text.as_bytes(), case.query, case.steps)?;
