@@ -1,0 +1,8 @@
+-- Looking into lists.
+use Rattle.std.proofs.Common.{◌≡◌, ℕ, zero, suc, List, [], ◌∷◌, slice_get, None, refl}
+use Rattle.std.specs.Prelude.{slice_index_or}
+
+pub absent_index : {A : Type 0} (xs : List A) (i : ℕ) (d : A) → slice_get xs i ≡ None → slice_index_or xs i d ≡ d
+absent_index [] i d e = refl
+absent_index (x ∷ xs) zero d e = cc
+absent_index (x ∷ xs) (suc i) d e = absent_index xs i d e

@@ -1,0 +1,7 @@
+use Rattle.std.proofs.Common.{◌≡◌, drop}
+use Rattle.std.specs.List.{list_all}
+use Rattle.name_order.specs.Tables.{has}
+use Rattle.name_order.proofs.leaves.all_have_members.Given as goal
+
+abbrev pub invariant-loop-name : goal.invariant-loop-name
+invariant-loop-name l = list_all (λ n. has l.members (n, n)) (drop l.name-index l.names) ≡ list_all (λ n. has l.members (n, n)) l.names

@@ -1,0 +1,20 @@
+-- What the tables of a grammar hold.
+use Rattle.std.specs.Prelude.{◌≡◌, ℕ, Bool, List}
+use Rattle.std.specs.List.{list_any}
+use Rattle.prog_data.specs.declared.grammars.Rule.{Rule}
+use Rattle.prog_data.specs.declared.grammars.Grammar.{Grammar}
+use Rattle.prog_data.specs.GrammarRange.{IsGrammar}
+use Rattle.name_order.specs.Relations.{has_member, below, meets, full_leaves, looked_up}
+use Rattle.name_order.specs.Tables.{Grid, has, lacks}
+
+-- a test that a leaf of one list passes is passed by one of the other
+abbrev pub SameLeaves : List Rule → List Rule → Type 0
+SameLeaves xs ys = (test : Rule → Bool) → list_any test xs ≡ list_any test ys
+
+-- the leaves that have members, and the tables of the names with members, of those that are not below, and of those that meet
+pub record TablesHold (g : Grammar) (leaves : List (List Rule)) (members outside meeting : Grid) : Type 0 where
+  pub range : IsGrammar g
+  pub same_leaves : (n : ℕ) → SameLeaves (looked_up leaves n) (full_leaves g n)
+  pub has_members : (n : ℕ) → has members (n, n) ≡ has_member g n
+  pub are_below : (n m : ℕ) → lacks outside (n, m) ≡ below g n m
+  pub are_meeting : (n m : ℕ) → has meeting (n, m) ≡ meets g n m
