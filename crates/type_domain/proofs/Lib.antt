@@ -1,0 +1,13 @@
+pub mod BitLaws
+pub mod EachHas
+pub mod Given
+pub mod InLaws
+pub mod LeafLists
+pub mod LeqLaws
+pub mod Lists
+pub mod MoreNames
+pub mod NameLoops
+pub mod Orders
+pub mod Parts
+pub mod Stored
+pub mod TermLeaves

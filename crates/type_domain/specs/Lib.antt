@@ -1,0 +1,4 @@
+pub mod Values
+pub mod Wanted
+pub mod Relied
+pub mod Laws
