@@ -1,12 +1,14 @@
 // What the relations of names mean for terms, and how they are ordered.
 ghost use Rattle.std.specs.Prelude.{◌≡◌, ◌↔◌, ℕ, true};
+ghost use Rattle.prog_data.specs.BasicNames.{basic_grammar};
 ghost use Rattle.prog_data.specs.GrammarRange.{IsGrammar};
 ghost use Rattle.prog_data.specs.declared.grammars.Grammar.{Grammar as GrammarValue};
 ghost use Rattle.name_order.specs.Relations.{HasMember, Below, Meets, has_member, below, meets, HasGnd, HasTerm, order, IsOrder};
 ghost use Rattle.name_order.specs.Laws.{AreFixpoints, BelowKeepsTerms, SharedMeet, MembersBelong, BelowReflexive, BelowTransitive, MeetsSymmetric, EmptyBelowAll};
 
-/// The names term and gnd of a program's grammar have their basic rules.
+/// The grammar of the basic names is a program's, and in each such grammar the names term and gnd have their basic rules.
 pub fn basic_rules_law()
+    ensures basic { IsGrammar basic_grammar }
     ensures term { (g : GrammarValue) → IsGrammar g → HasTerm g }
     ensures gnd { (g : GrammarValue) → IsGrammar g → HasGnd g }
 {}
