@@ -7,8 +7,8 @@ use Rattle.std.proofs.lemmas.List.{length-append}
 use Rattle.std.proofs.lemmas.List.Sums.{passes_at_first}
 use Rattle.std.proofs.lemmas.Slice.Eq.{bytes_eq-Decides}
 use Rattle.term_core.specs.declared.fixed.TheConstants as fixed
-use Rattle.term_core.specs.Names.{fixed_names, place_of, with_text, with_texts, IsPrefix}
-use Rattle.term_core.specs.Printing.{name_text}
+use Rattle.term_core.specs.Names.{fixed_names, place_of, with_text, with_texts, name_text}
+use Rattle.term_core.specs.Lists.{IsPrefix}
 use Rattle.ciao_reader.specs.ReadingBack.{AreNames}
 use Rattle.ciao_reader.proofs.Positions.{position_within, position_in_front, position_of_distinct, any_at_end, any_in_front, any_at}
 

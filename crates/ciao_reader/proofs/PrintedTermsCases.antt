@@ -5,8 +5,9 @@ use Rattle.std.specs.Fmt.{signed_decimal}
 use Rattle.std.proofs.lemmas.Bool.{ltb-true, le-leb, eqb-true}
 use Rattle.std.proofs.lemmas.List.{append-nil}
 use Rattle.term_core.specs.declared.fixed.TheConstants as fixed
-use Rattle.term_core.specs.Names.{IsPrefix, fixed_names}
-use Rattle.term_core.specs.Printing.{Shown, name_text, after_bar, plain_shown, name_shown, atom_shown}
+use Rattle.term_core.specs.Names.{fixed_names, name_text}
+use Rattle.term_core.specs.Lists.{IsPrefix}
+use Rattle.term_core.specs.Printing.{Shown, after_bar, plain_shown, name_shown, atom_shown}
 use Rattle.term_core.specs.Printing as shown
 use Rattle.term_core.specs.OperatorLaws.{IsOrderly}
 use Rattle.term_core.specs.Operators.{prefix_of, infix_of}

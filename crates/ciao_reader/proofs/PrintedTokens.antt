@@ -4,8 +4,8 @@ use Rattle.std.specs.Prelude.{◌&&◌, ◌||◌, ◌==◌, nat_lt, is_some, Opt
 use Rattle.std.specs.List.{list_any}
 use Rattle.std.proofs.lemmas.Bool.{and_parts, or_from, ltb-true}
 use Rattle.term_core.specs.declared.fixed.TheConstants as fixed
-use Rattle.term_core.specs.Names.{place_of, IsPrefix}
-use Rattle.term_core.specs.Printing.{name_text}
+use Rattle.term_core.specs.Names.{place_of, name_text}
+use Rattle.term_core.specs.Lists.{IsPrefix}
 use Rattle.term_core.specs.Operators.{prefix_of, infix_of, right_limit}
 use Rattle.term_core.specs.declared.operators.Op.{Op}
 use Rattle.term_core.specs.declared.operators.Operators.{Operators}

@@ -3,7 +3,8 @@ use Rattle.std.proofs.Common.{ℕ, Bool, true, false, List, [], ◌∷◌, ◌++
 use Rattle.std.specs.Prelude.{◌==◌, ◌&&◌, ◌||◌, not, nat_lt, nat_le, ◌^◌, if◌then◌else◌, flat_map, codes, decimal}
 use Rattle.term_core.specs.declared.fixed.TheConstants as fixed
 use Rattle.term_core.specs.Characters.{is_name}
-use Rattle.term_core.specs.Printing.{name_text, quoted_where_needed}
+use Rattle.term_core.specs.Printing.{quoted_where_needed}
+use Rattle.term_core.specs.Names.{name_text}
 use Rattle.ciao_tokens.specs.Forms.{Shape, name, quoted, variable, number, text, mark, stop, paren, close_paren, bracket, close_bracket, curly, close_curly, comma, bar}
 use Rattle.ciao_tokens.specs.Pieces.{Piece, layout, token}
 use Rattle.ciao_tokens.specs.declared.kinds.Token.{Token}

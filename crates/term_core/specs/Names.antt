@@ -1,5 +1,5 @@
 -- Names: a list of distinct texts, and the texts with which it begins.
-use Rattle.std.specs.Prelude.{◌≡◌, ℕ, List, [], ◌∷◌, ◌++◌, Option, Some, slice_get, if◌then◌else◌, bytes_eq, codes, position}
+use Rattle.std.specs.Prelude.{◌≡◌, ℕ, List, [], ◌∷◌, ◌++◌, Option, Some, slice_get, slice_index_or, if◌then◌else◌, bytes_eq, codes, position}
 use Rattle.std.specs.List.{list_any, position_or_len}
 use Rattle.term_core.specs.declared.fixed.TheConstants.{NIL, CELL, BRACES, COMMA, BAR, CUT, SEMICOLON, EXIT, TRUE, FAIL, FALSE, CHECK, TRUST, CHECKED, LIBRARY, NECK, GRAMMAR_ARROW, QUERY, DEFINES, PRED, CALLS, SUCCESS, COMP, ENTRY, REGTYPE, ARROW, QUESTION, HASH, IMPLIES, NEGATION, EQUALS, NOT_EQUALS, SAME, NOT_SAME, BEFORE, AFTER, BEFORE_OR_SAME, AFTER_OR_SAME, UNIV, IS, NUMBER_EQUALS, NUMBER_NOT_EQUALS, LESS, GREATER, LESS_OR_EQUAL, GREATER_OR_EQUAL, COLON, PLUS, MINUS, TIMES, SLASH, QUOTIENT, REMAINDER, MODULO, POWER, CARET, TILDE, INTEGER, ATOM, WRITE, WRITEQ, NL, TERM, INT, NNEGINT, NUM, ATM, GND, CONSTANT, STRUCT, CALLABLE, LIST, VAR, NONVAR, GROUND}
 
@@ -22,9 +22,9 @@ abbrev pub with_texts : List (List ℕ) → List (List ℕ) → List (List ℕ)
 with_texts texts [] = texts
 with_texts texts (t ∷ ts) = with_texts (with_text texts t) ts
 
--- the first texts begin the second: each keeps its place
-abbrev pub IsPrefix : List (List ℕ) → List (List ℕ) → Type 0
-IsPrefix front all = (rest : List (List ℕ)) × (front ++ rest ≡ all)
+-- the text of a name, nothing for a number that is no name's
+abbrev pub name_text : List (List ℕ) → ℕ → List ℕ
+name_text names n = slice_index_or names n []
 
 -- the texts that the language knows, in the order of their numbers: special atoms and control, statuses of assertions, `library`, the operators from the loosest, built-ins, basic properties
 abbrev pub fixed_names : List (List ℕ)

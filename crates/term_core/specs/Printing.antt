@@ -1,11 +1,13 @@
 -- The text of a term.
-use Rattle.std.specs.Prelude.{◌≡◌, ℕ, Bool, false, not, ◌||◌, ◌&&◌, ◌==◌, nat_lt, if◌then◌else◌, List, [], ◌∷◌, ◌++◌, length, take, map, flat_map, slice_index_or, is_some, Option, Some, None, codes, decimal}
+use Rattle.std.specs.Prelude.{ℕ, Bool, false, not, ◌||◌, ◌==◌, nat_lt, if◌then◌else◌, List, [], ◌∷◌, ◌++◌, map, flat_map, is_some, Option, Some, None, codes, decimal}
+use Rattle.std.specs.Str.{byte}
 use Rattle.std.specs.Fmt.{signed_decimal}
 use Rattle.term_core.specs.declared.operators.Op.{Op}
 use Rattle.term_core.specs.declared.operators.Operators.{Operators}
 use Rattle.term_core.specs.declared.terms.Term.{Term}
 use Rattle.term_core.specs.declared.terms.Term.TheOpen.{Term-F, Var, Int, Atom, Node}
 use Rattle.term_core.specs.declared.terms.Term.TheFolds.{fold-Term}
+use Rattle.term_core.specs.Names.{name_text}
 use Rattle.term_core.specs.declared.fixed.TheConstants.{NIL, CELL, BRACES, COMMA, BAR}
 use Rattle.term_core.specs.Characters.{is_name}
 use Rattle.term_core.specs.Operators.{prefix_of, infix_of, left_limit, right_limit}
@@ -15,20 +17,16 @@ use Rattle.term_core.specs.Operators.{prefix_of, infix_of, left_limit, right_lim
 -- a character between quotes
 abbrev pub escaped : ℕ → List ℕ
 escaped c =
-    if c == 92 then codes "\\\\"
-    else if c == 39 then codes "\\'"
-    else if c == 10 then codes "\\n"
-    else if c == 9 then codes "\\t"
-    else if c == 13 then codes "\\r"
+    if c == byte "\\" then codes "\\\\"
+    else if c == byte "'" then codes "\\'"
+    else if c == byte "\n" then codes "\\n"
+    else if c == byte "\t" then codes "\\t"
+    else if c == byte "\r" then codes "\\r"
     else c ∷ []
 
 -- a text between quotes
 abbrev pub in_quotes : List ℕ → List ℕ
 in_quotes text = codes "'" ++ flat_map escaped text ++ codes "'"
-
--- the text of a name, nothing for a number that is no name's
-abbrev pub name_text : List (List ℕ) → ℕ → List ℕ
-name_text names n = slice_index_or names n []
 
 -- a text with quotes, where they are asked for and a name needs them
 abbrev pub quoted_where_needed : Bool → List ℕ → List ℕ
@@ -149,12 +147,3 @@ module _ (names : List (List ℕ)) (ops : Operators) (quoted : Bool) where
   -- what stands behind the items of a list before this tail
   abbrev pub PrintedTail : Term → List ℕ
   PrintedTail t = (shown_of t).as_tail
-
--- whether a term is a list cell
-abbrev pub is_cell : Term-F Term → Bool
-is_cell (Node f parts) = (f == CELL) && (length parts == 2)
-is_cell other = false
-
--- some prefix of the text was appended and nothing else
-abbrev pub GrewByPrefix : List ℕ → List ℕ → List ℕ → Type 0
-GrewByPrefix old new text = (count : ℕ) × (new ≡ old ++ take count text)
