@@ -1,5 +1,5 @@
 -- What the outside holds and takes, and when it may refuse.
-use Rattle.std.specs.Prelude.{◌≡◌, ◌⊎◌, ℕ, Bool, true, ◌-◌, ◌^◌, ◌<◌, ◌≤◌, List, ◌++◌, take, Option, Some, None, option_map, Result, Ok, Err, IsErrOf}
+use Rattle.std.specs.Prelude.{◌≡◌, ◌⊎◌, ℕ, Bool, true, ◌-◌, ◌^◌, ◌<◌, ◌≤◌, List, ◌++◌, take, Option, Some, None, option_map, Result, Ok, Err, IfOk, IsErrOf}
 use Rattle.byte_io.specs.declared.files.FilesFault.{FilesFault}
 
 -- files by name: the bytes of each that is there
@@ -34,6 +34,10 @@ pub record FileRead : Type 0 where
   pub name : List ℕ
   pub most : ℕ
   pub answer : Result (Option (List ℕ)) FilesFault
+
+-- these files are as the read was answered: they have the bytes that it gave, or no file of that name where it gave none
+abbrev pub Agrees : Held → FileRead → Type 0
+Agrees files read = IfOk read.answer (λ given. given ≡ option_map (take read.most) (files read.name))
 
 -- the answer of a read, with the bytes of a vector as a list
 abbrev pub answer_of : {V : Type 0} → (V → List ℕ) → Result (Option V) FilesFault → Result (Option (List ℕ)) FilesFault

@@ -9,7 +9,7 @@ use crate::FilesFault;
 use std::marker::Model;
 
 /// The reads that were made.
-#[derive(Drop)]
+#[derive(Drop, Debug)]
 pub(crate) struct Reads {
     ghost list: { List FileRead } by { coded_list file_read_code },
 }

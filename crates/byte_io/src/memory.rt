@@ -28,7 +28,7 @@ pub struct Stored {
 }
 
 /// Files in memory. Their reads are counted from 0, and those whose numbers were listed fail.
-#[derive(Drop)]
+#[derive(Drop, Debug)]
 pub struct MemFiles {
     alloc: Global,
     stored: Vec<Stored>,
