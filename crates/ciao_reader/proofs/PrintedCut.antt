@@ -4,7 +4,8 @@ use Rattle.std.proofs.lemmas.Bool.{and_parts, leb-true}
 use Rattle.std.proofs.lemmas.Str.{IsUtf8-append, IsUtf8-nil, IsUtf8-from_ascii}
 use Rattle.std.specs.Prelude.{nat_le, codes, IsUtf8, if◌then◌else◌}
 use Rattle.term_core.specs.Characters.{is_name}
-use Rattle.term_core.specs.Printing.{name_text, quoted_where_needed, in_quotes}
+use Rattle.term_core.specs.Printing.{quoted_where_needed, in_quotes}
+use Rattle.term_core.specs.Names.{name_text}
 use Rattle.ciao_tokens.specs.Forms.{name, quoted, paren, close_paren, bracket, close_bracket, curly, close_curly, comma, bar}
 use Rattle.ciao_tokens.specs.Pieces.{token, size, IsPiece, Cut}
 use Rattle.ciao_tokens.specs.Tokens.{IsInRange, AreInRange, has_mark}

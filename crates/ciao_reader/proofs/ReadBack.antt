@@ -3,7 +3,7 @@ use Rattle.std.proofs.Common.{◌≡◌, ◌≤◌, ℕ, inr, Bool, true, false,
 use Rattle.std.specs.Prelude.{◌&&◌, ◌||◌, nat_eq, Some, None, if◌then◌else◌}
 use Rattle.std.specs.List.{position_or_len, AllByRecursion}
 use Rattle.std.proofs.lemmas.Bool.{and_parts}
-use Rattle.term_core.specs.Names.{IsPrefix}
+use Rattle.term_core.specs.Lists.{IsPrefix}
 use Rattle.term_core.specs.Standard.{IsMade}
 use Rattle.term_core.specs.Terms.{instance, with_all_new}
 use Rattle.term_core.specs.declared.terms.Term.{Term}

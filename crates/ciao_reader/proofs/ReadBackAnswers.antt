@@ -1,7 +1,8 @@
 -- What comes of reading what was printed.
 use Rattle.std.proofs.Common.{◌≡◌, ℕ, zero, suc, true, List, [], ◌∷◌, length, refl, ap, sym, ◌∙◌, subst}
 use Rattle.std.specs.List.{AllByRecursion, IsDistinct}
-use Rattle.term_core.specs.Names.{fixed_names, IsPrefix}
+use Rattle.term_core.specs.Names.{fixed_names}
+use Rattle.term_core.specs.Lists.{IsPrefix}
 use Rattle.std.specs.Prelude.{IsUtf8, slice_index_or, bytes_eq, Result, Ok, Err, IfOk, IfErr, MatchResult}
 use Rattle.term_core.specs.Printing.{Printed}
 use Rattle.term_core.specs.Standard.{IsMade}

@@ -1,7 +1,8 @@
 -- The law that what is printed with quotes is read again.
 use Rattle.std.specs.Prelude.{◌≡◌, ◌≤◌, ℕ, ◌^◌, Bool, true, ◌&&◌, nat_lt, nat_le, nat_eq, ℤ, pos, negsuc, List, [], length, slice_index_or, bytes_eq, IsUtf8}
 use Rattle.std.specs.List.{list_all, position_or_len, IsDistinct}
-use Rattle.term_core.specs.Names.{fixed_names, IsPrefix}
+use Rattle.term_core.specs.Names.{fixed_names}
+use Rattle.term_core.specs.Lists.{IsPrefix}
 use Rattle.term_core.specs.Terms.{instance, vars}
 use Rattle.term_core.specs.Printing.{Printed}
 use Rattle.term_core.specs.Standard.{IsMade}

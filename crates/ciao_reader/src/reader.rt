@@ -5,7 +5,7 @@ ghost use Rattle.ciao_reader.specs.Sentences.{ends, is_end, line_of, is_large, i
 ghost use Rattle.ciao_reader.specs.Faults.{IsUnreadOr, IsWrongOr, FirstFaultOr, FailsAsGoalOr, as_read, IsFaultOf, IsGoalFaultOf};
 ghost use Rattle.ciao_reader.specs.Changes.{table_after};
 ghost use Rattle.term_core.specs.Standard.{standard};
-ghost use Rattle.term_core.specs.Names.{IsPrefix};
+ghost use Rattle.term_core.specs.Lists.{IsPrefix};
 ghost use Rattle.term_core.specs.Printing.{Printed};
 ghost use Rattle.term_core.specs.declared.terms.Term.{Term};
 ghost use Rattle.ciao_reader.specs.ReadingBack.{is_readable, numbered_from_zero, IsShallow};

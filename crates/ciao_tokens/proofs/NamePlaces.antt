@@ -5,7 +5,8 @@ use Rattle.std.proofs.lemmas.Slice.Eq.{bytes_eq-Decides}
 use Rattle.std.proofs.lemmas.Bool.{or_left, or_right}
 use Rattle.std.specs.Prelude.{bytes_eq, if◌then◌else◌, ◌||◌}
 use Rattle.std.specs.List.{list_any, position_or_len}
-use Rattle.term_core.specs.Names.{place_of, with_text, with_texts, IsPrefix}
+use Rattle.term_core.specs.Names.{place_of, with_text, with_texts}
+use Rattle.term_core.specs.Lists.{IsPrefix}
 
 -- fronts
 

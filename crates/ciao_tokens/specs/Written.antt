@@ -1,7 +1,7 @@
 -- What is written as a token is that token, before nothing, a blank or a mark.
 use Rattle.std.specs.Prelude.{◌≡◌, ◌≤◌, ◌^◌, ℕ, true, false, ◌==◌, List, ◌∷◌, ◌++◌, length, codes, decimal, IsUtf8}
 use Rattle.std.specs.List.{list_any}
-use Rattle.term_core.specs.Names.{IsPrefix}
+use Rattle.term_core.specs.Lists.{IsPrefix}
 use Rattle.term_core.specs.Characters.{is_name}
 use Rattle.term_core.specs.Printing.{in_quotes}
 use Rattle.ciao_tokens.specs.Layout.{is_blank}

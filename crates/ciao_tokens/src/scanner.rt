@@ -1,6 +1,7 @@
 // The tokens of a text.
 ghost use Rattle.std.specs.Prelude.{◌≡◌, ◌<◌, ◌≤◌, ◌+◌, ◌-◌, ◌^◌, ℕ, List, [], ◌∷◌, length, true, false, take, drop, IfOk, OnOk, IfErr, MatchResult, IsUtf8, if◌then◌else◌};
-ghost use Rattle.term_core.specs.Names.{IsPrefix, with_texts};
+ghost use Rattle.term_core.specs.Names.{with_texts};
+ghost use Rattle.term_core.specs.Lists.{IsPrefix};
 ghost use Rattle.ciao_tokens.specs.Classes.{mark_of};
 ghost use Rattle.ciao_tokens.specs.Scanning.{Finds};
 ghost use Rattle.ciao_tokens.specs.Tokens.{HasTokens, has_mark, without_mark, line_feeds, mark_kind, words};

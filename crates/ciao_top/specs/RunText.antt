@@ -1,6 +1,7 @@
 -- The text and the status of a run, from its events and its ending.
 use Rattle.std.specs.Prelude.{ℕ, true, List, [], ◌∷◌, ◌++◌, flat_map, slice_get, Option, None, Some, codes, decimal}
-use Rattle.term_core.specs.Printing.{Printed, name_text}
+use Rattle.term_core.specs.Printing.{Printed}
+use Rattle.term_core.specs.Names.{name_text}
 use Rattle.term_core.specs.declared.terms.Term.{Term}
 use Rattle.term_core.specs.declared.terms.Term as term
 use Rattle.prog_data.specs.declared.programs.Place.{Place}

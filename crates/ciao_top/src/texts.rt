@@ -1,6 +1,6 @@
 // The lines and texts that are written.
 ghost use Rattle.std.specs.Prelude.{◌≡◌, ◌++◌, ◌∷◌, [], Option, Some, IfOk, OnOk, codes, decimal, string_bytes, slice_get};
-ghost use Rattle.term_core.specs.Printing.{name_text};
+ghost use Rattle.term_core.specs.Names.{name_text};
 ghost use Rattle.term_core.specs.declared.terms.Term as term;
 ghost use Rattle.prog_data.specs.Goals.{pred_of};
 ghost use Rattle.ciao_top.specs.Lines.{fault_line, file_fault, read_fault, fault_at, fault_word};

@@ -1,7 +1,7 @@
 // Files and queries: from their text to a unit, or to the line of the first sentence that is not built yet.
 ghost use Rattle.std.specs.Prelude.{◌≡◌, ◌∷◌, List, ℕ, IfOk, IfSome, IfNone, string_bytes};
 ghost use Rattle.term_core.specs.declared.terms.Term.{Term as TermValue};
-ghost use Rattle.term_core.specs.Names.{IsPrefix};
+ghost use Rattle.term_core.specs.Lists.{IsPrefix};
 ghost use Rattle.ciao_top.specs.Units.{file_text, IsQuery};
 ghost use Rattle.ciao_top.specs.UnitSteps.{wants_memory, RestIs, SentencesGive, TextGives};
 

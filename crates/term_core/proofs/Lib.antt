@@ -1,18 +1,19 @@
 pub mod Counting
-pub mod FixedNames
-pub mod Occurrences
-pub mod OperatorChanges
-pub mod OperatorLists
+mod FixedNames
+mod Occurrences
+mod OperatorChanges
+mod OperatorLists
 pub mod OperatorTables
-pub mod OperatorTies
-pub mod OperatorTorn
-pub mod QuotingLemmas
-pub mod ShortLists
+mod OperatorTies
+mod OperatorTorn
+mod QuotingLemmas
+mod ShortLists
 pub mod Sizes
 pub mod TermFolds
 pub mod TermLaws
-pub mod TextLemmas
-pub mod Solving
+mod TailLemmas
+mod TextLemmas
+mod Solving
 pub mod Turns
 pub mod UnifyEnds
 pub mod VarLemmas

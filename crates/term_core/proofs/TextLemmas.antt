@@ -5,7 +5,8 @@ use Rattle.std.proofs.lemmas.Str.{IsUtf8-string_bytes}
 use Rattle.std.specs.Prelude.{IsUtf8, string_bytes, string_eq, bytes_eq, if◌then◌else◌, ◌||◌}
 use Rattle.std.specs.List.{IsDistinct, AllByRecursion, list_any, position_or_len}
 use Rattle.std.proofs.lemmas.List.{length-map, map-append}
-use Rattle.term_core.specs.Names.{find_text, place_of, with_text, IsPrefix}
+use Rattle.term_core.specs.Names.{find_text, place_of, with_text}
+use Rattle.term_core.specs.Lists.{IsPrefix}
 
 -- the texts of the keys of a set
 abbrev pub texts_of : {A : Type 0} → List (String A) → List (List ℕ)

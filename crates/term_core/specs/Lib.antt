@@ -1,8 +1,10 @@
 pub mod Characters
+pub mod Lists
 pub mod Names
 pub mod OperatorLaws
 pub mod Operators
 pub mod Printing
+pub mod Shapes
 pub mod Solutions
 pub mod Standard
 pub mod Terms

@@ -1,7 +1,8 @@
 // Names: each is a text with a number, its place.
 ghost use Rattle.std.specs.Prelude.{◌≡◌, ◌<◌, ◌+◌, ◌^◌, List, ℕ, [], ◌∷◌, ◌++◌, map, length, slice_get, IfOk, OnOk, OnErr, option_map, Some, bytes_eq, string_bytes, IsUtf8};
 ghost use Rattle.std.specs.List.{IsDistinct, AllByRecursion};
-ghost use Rattle.term_core.specs.Names.{fixed_names, place_of, with_text, with_texts, find_text, IsPrefix, NamesArePlaces};
+ghost use Rattle.term_core.specs.Names.{fixed_names, place_of, with_text, with_texts, find_text, name_text, NamesArePlaces};
+ghost use Rattle.term_core.specs.Lists.{IsPrefix};
 ghost use Rattle.std.specs.Thread.{IsSend, IsSync};
 ghost use Rattle.term_core.specs.contracts.names.Names.{the_row as names_row};
 
@@ -29,7 +30,8 @@ pub struct Names {
 
 impl Model for Names {
     ghost use Rattle.std.specs.Prelude.{List, ℕ, map, string_bytes};
-    ghost use Rattle.term_core.specs.Names.{IsPrefix, fixed_names};
+    ghost use Rattle.term_core.specs.Lists.{IsPrefix};
+    ghost use Rattle.term_core.specs.Names.{fixed_names};
 
     ghost Value = { List (List ℕ) };
 
@@ -94,6 +96,17 @@ impl Names {
         match self.texts.get_index(number as usize) {
             Some(text) => text.as_str(),
             None => "",
+        }
+    }
+
+    /// The text of a number, nothing for a number that is no name's.
+    pub fn text_or_empty(&self, number: u64) -> &str
+        ensures { result.now ≡ name_text self.now number }
+    {
+        if number < self.len() {
+            self.text(number)
+        } else {
+            ""
         }
     }
 

@@ -1,20 +1,17 @@
 // Tables of operators.
 ghost use Rattle.std.specs.Prelude.{◌≡◌, Some, None, IfOk, OnOk, OnErr, IsErrOf};
-ghost use Rattle.term_core.specs.Operators.{prefix_of, infix_of, defined, added, changed, redefined, is_torn_at, has_kind, is_before, is_yfx, is_xfy, is_fy};
+ghost use Rattle.term_core.specs.Operators.{prefix_of, infix_of, defined, added, changed, redefined, is_reserved, left_limit, right_limit, is_torn_at, has_kind, is_before, is_yfx, is_xfy, is_fy};
 ghost use Rattle.term_core.specs.Standard.{IsMade, standard};
 ghost use Rattle.term_core.specs.OperatorLaws.{TablesAreOrderly, TablesHaveOneRoot, ChangesSetOneName};
 ghost use Rattle.std.specs.Thread.{IsSend, IsSync};
 ghost use Rattle.term_core.specs.contracts.operators.OpTable.{the_row as table_row};
 
-use crate::NoMemory;
 use crate::names::crosses;
 use crate::standard::{standard_infixes, standard_prefixes};
+use crate::{BAR, NoMemory};
 use sqlite_items::Items;
 use std::alloc::Global;
 use std::marker::Model;
-
-// The last of the names that no change takes: `[]`, `.`, `{}`, the comma and the bar.
-const LAST_RESERVED: u64 = 4;
 
 /// Where an operator stands: `f` is the operator, `x` an argument of a lower priority, `y` one of at most its own.
 #[derive(Clone, Copy, Drop, Debug, PartialEq, Eq)]
@@ -31,6 +28,29 @@ pub enum OpKind {
 pub struct Op {
     pub priority: u64,
     pub kind: OpKind,
+}
+
+impl Op {
+    /// The greatest priority of the argument before it.
+    pub fn left_limit(self) -> u64
+        ensures { result ≡ left_limit self }
+    {
+        match self.kind {
+            OpKind::Xfx | OpKind::Xfy => self.priority.saturating_sub(1),
+            OpKind::Yfx => self.priority,
+            OpKind::Fy | OpKind::Fx => 0,
+        }
+    }
+
+    /// The greatest priority of the argument behind it.
+    pub fn right_limit(self) -> u64
+        ensures { result ≡ right_limit self }
+    {
+        match self.kind {
+            OpKind::Xfy | OpKind::Fy => self.priority,
+            OpKind::Xfx | OpKind::Yfx | OpKind::Fx => self.priority.saturating_sub(1),
+        }
+    }
 }
 
 /// A name and the operator that it is.
@@ -101,7 +121,7 @@ impl OpTable {
         ensures refused { IsErrOf result OpFault.OpRefused → added priority kind name self.old ≡ None }
         ensures err { OnErr result (self.new ≡ self.old) }
     {
-        if priority < 0 || 1200 < priority || name <= LAST_RESERVED {
+        if priority < 0 || 1200 < priority || is_reserved(name) {
             return Err(OpFault::OpRefused);
         }
         let op = Op {
@@ -139,6 +159,13 @@ impl OpTable {
     {
         op_of(self.operators.infixes.as_slice(), name)
     }
+}
+
+// The names that no change takes are the first: `[]`, `.`, `{}`, the comma and the bar.
+fn is_reserved(name: u64) -> bool
+    ensures { result ≡ is_reserved name }
+{
+    name <= BAR
 }
 
 // What a name is in a list.

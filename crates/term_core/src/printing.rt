@@ -2,25 +2,16 @@
 ghost use Rattle.std.specs.Prelude.{◌≡◌, ◌++◌, ◌∷◌, [], ◌||◌, false, map, codes, decimal, nat_lt, OnOk, OnErr, MatchOption, string_bytes, flat_map};
 ghost use Rattle.std.specs.Fmt.{signed_decimal};
 ghost use Rattle.term_core.specs.declared.terms.Term.{out-Term};
-ghost use Rattle.term_core.specs.Names.{nil, cell};
-ghost use Rattle.term_core.specs.Terms.{is_atom_of};
-ghost use Rattle.term_core.specs.Operators.{left_limit, right_limit, prefix_of};
-ghost use Rattle.term_core.specs.Printing.{name_text, Printed, PrintedTail, GrewByPrefix, shown_of, at_argument, at_operand, atom_text, name_shown, infix_name, compound_shown, Shown, one_shown, call_shown, plain_shown, prefix_text, in_parens, call_text, with_commas, after_comma, is_cell};
+ghost use Rattle.term_core.specs.declared.fixed.TheConstants.{CELL};
+ghost use Rattle.term_core.specs.Lists.{GrewByPrefix};
+ghost use Rattle.term_core.specs.Shapes.{is_pair};
+ghost use Rattle.term_core.specs.Operators.{prefix_of};
+ghost use Rattle.term_core.specs.Printing.{Printed, PrintedTail, shown_of, at_argument, at_operand, atom_text, name_shown, infix_name, compound_shown, Shown, one_shown, call_shown, plain_shown, prefix_text, in_parens, call_text, with_commas, after_comma};
 
-use crate::quoting::{is_name, push_quoted};
-use crate::{Names, NoMemory, Op, OpKind, OpTable, Term};
+use crate::characters::is_name;
+use crate::quoting::push_quoted;
+use crate::{BAR, BRACES, CELL, COMMA, NIL, Names, NoMemory, Op, OpTable, Term};
 use itoa::Buffer;
-
-// The numbers of `[]`, of the name of list cells, of `{}`, the comma and the bar.
-const NIL: u64 = 0;
-
-const CELL: u64 = 1;
-
-const BRACES: u64 = 2;
-
-const COMMA: u64 = 3;
-
-const BAR: u64 = 4;
 
 // The greatest priority of an argument between parentheses and of an item of a list.
 const ARGUMENT: u64 = 999;
@@ -75,7 +66,7 @@ impl Style<'_> {
         ensures { OnOk result (string_bytes out.new ≡ string_bytes out.old ++ atom_text self.now.names.now self.now.ops.now self.now.quoted name) }
     {
         if name == NIL || name == BRACES {
-            out.push_str(name_text(self.names, name))?;
+            out.push_str(self.names.text_or_empty(name))?;
             Ok(())
         } else {
             self.push_name(name, out)
@@ -86,7 +77,7 @@ impl Style<'_> {
     fn push_name(&self, name: u64, out: &mut String) -> Result<(), NoMemory>
         ensures { OnOk result (string_bytes out.new ≡ string_bytes out.old ++ name_shown self.now.names.now self.now.ops.now self.now.quoted name) }
     {
-        let text = name_text(self.names, name);
+        let text = self.names.text_or_empty(name);
         if self.quoted && !is_name(text) {
             push_quoted(text, out)
         } else {
@@ -117,9 +108,9 @@ impl Style<'_> {
                 }
                 match self.ops.infix(name) {
                     Some(op) => {
-                        self.push_operand(left_limit(op), left, out)?;
+                        self.push_operand(op.left_limit(), left, out)?;
                         self.push_infix_name(name, out)?;
-                        self.push_operand(right_limit(op), right, out)
+                        self.push_operand(op.right_limit(), right, out)
                     }
                     None => self.push_call(name, arguments, out),
                 }
@@ -168,7 +159,7 @@ impl Style<'_> {
     {
         self.push_name(name, out)?;
         out.push(' ')?;
-        self.push_operand(right_limit(op), argument, out)
+        self.push_operand(op.right_limit(), argument, out)
     }
 
     fn push_infix_name(&self, name: u64, out: &mut String) -> Result<(), NoMemory>
@@ -320,7 +311,7 @@ impl Style<'_> {
         ensures { OnOk result (string_bytes out.new ≡ string_bytes out.old ++ PrintedTail self.now.names.now self.now.ops.now self.now.quoted tail.now) }
     {
         let mut left = tail;
-        while let Some((item, rest)) = list_cell(left) {
+        while let Some((item, rest)) = left.list_cell() {
             self.push_after_comma(item, out)?;
             left = rest;
         }
@@ -330,10 +321,10 @@ impl Style<'_> {
     // The end of a list whose last tail is no cell.
     #[cycle(printing)]
     fn push_end(&self, tail: &Term, out: &mut String) -> Result<(), NoMemory>
-        requires { is_cell (out-Term tail.now) ≡ false }
+        requires { is_pair CELL (out-Term tail.now) ≡ false }
         ensures { OnOk result (string_bytes out.new ≡ string_bytes out.old ++ PrintedTail self.now.names.now self.now.ops.now self.now.quoted tail.now) }
     {
-        if is_empty_list(tail) {
+        if tail.is_empty_list() {
             out.push(']')?;
             return Ok(());
         }
@@ -341,55 +332,6 @@ impl Style<'_> {
         self.push_argument(tail, out)?;
         out.push(']')?;
         Ok(())
-    }
-}
-
-// The item and the tail of a list cell.
-fn list_cell(term: &Term) -> Option<(&Term, &Term)>
-    ensures { MatchOption result (is_cell (out-Term term.now) ≡ false) (λ parts. term.now ≡ Term.Node cell (parts.0.now ∷ parts.1.now ∷ [])) }
-{
-    match term {
-        Term::Var(_) | Term::Int(_) | Term::Atom(_) => None,
-        Term::Node(name, parts) => match parts.as_slice() {
-            [item, tail] => {
-                if *name == CELL {
-                    Some((item, tail))
-                } else {
-                    None
-                }
-            }
-            _ => None,
-        },
-    }
-}
-
-fn is_empty_list(term: &Term) -> bool
-    ensures { result ≡ is_atom_of nil (out-Term term.now) }
-{
-    match term {
-        Term::Atom(name) => *name == NIL,
-        Term::Var(_) | Term::Int(_) | Term::Node(_, _) => false,
-    }
-}
-
-// The greatest priority of the argument before an operator.
-fn left_limit(op: Op) -> u64
-    ensures { result ≡ left_limit op }
-{
-    match op.kind {
-        OpKind::Xfx | OpKind::Xfy => op.priority.saturating_sub(1),
-        OpKind::Yfx => op.priority,
-        OpKind::Fy | OpKind::Fx => 0,
-    }
-}
-
-// The greatest priority of the argument behind an operator.
-fn right_limit(op: Op) -> u64
-    ensures { result ≡ right_limit op }
-{
-    match op.kind {
-        OpKind::Xfy | OpKind::Fy => op.priority,
-        OpKind::Xfx | OpKind::Yfx | OpKind::Fx => op.priority.saturating_sub(1),
     }
 }
 
@@ -408,15 +350,4 @@ fn push_integer(number: i64, out: &mut String) -> Result<(), NoMemory>
     let mut digits = Buffer::new();
     out.push_str(digits.format(number))?;
     Ok(())
-}
-
-// The text of a name, nothing for a number that is no name's.
-fn name_text(names: &Names, name: u64) -> &str
-    ensures { result.now ≡ name_text names.now name }
-{
-    if name < names.len() {
-        names.text(name)
-    } else {
-        ""
-    }
 }

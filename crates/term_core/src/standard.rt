@@ -2,22 +2,37 @@
 ghost use Rattle.std.specs.Prelude.{◌≡◌, ◌++◌, IfOk, OnOk};
 ghost use Rattle.term_core.specs.Standard.{standard_prefixes, standard_infixes, all_defined};
 
-use crate::NoMemory;
 use crate::operators::{Definition, Op, OpKind};
+use crate::{
+    AFTER, AFTER_OR_SAME, ARROW, BAR, BEFORE, BEFORE_OR_SAME, CALLS, CARET, CHECK, CHECKED, COLON,
+    COMMA, COMP, DEFINES, ENTRY, EQUALS, FALSE, GRAMMAR_ARROW, GREATER, GREATER_OR_EQUAL, HASH,
+    IMPLIES, IS, LESS, LESS_OR_EQUAL, MINUS, MODULO, NECK, NEGATION, NOT_EQUALS, NOT_SAME,
+    NUMBER_EQUALS, NUMBER_NOT_EQUALS, NoMemory, PLUS, POWER, PRED, QUERY, QUESTION, QUOTIENT,
+    REGTYPE, REMAINDER, SAME, SEMICOLON, SLASH, SUCCESS, TILDE, TIMES, TRUE, TRUST, UNIV,
+};
 use sqlite_items::Items;
 use std::alloc::Global;
 
-// Of each row the texts stand behind the numbers of the names.
 pub(crate) fn standard_prefixes(alloc: Global) -> Result<Items<Definition>, NoMemory>
     ensures { IfOk result (λ ds. ds ≡ standard_prefixes) }
 {
     let mut known = Items::new(alloc);
-    push_all(&mut known, 1200, OpKind::Fx, &[15, 17])?; // :- ?-
-    push_all(&mut known, 1150, OpKind::Fx, &[19, 20, 21, 22, 23, 24])?; // pred calls success comp entry regtype
-    push_all(&mut known, 1150, OpKind::Fy, &[11, 12, 8, 13, 10])?; // check trust true checked false
-    push_all(&mut known, 900, OpKind::Fy, &[29])?; // \+
-    push_all(&mut known, 200, OpKind::Fy, &[48])?; // -
-    push_all(&mut known, 50, OpKind::Fx, &[56])?; // ~
+    push_all(&mut known, 1200, OpKind::Fx, &[NECK, QUERY])?;
+    push_all(
+        &mut known,
+        1150,
+        OpKind::Fx,
+        &[PRED, CALLS, SUCCESS, COMP, ENTRY, REGTYPE],
+    )?;
+    push_all(
+        &mut known,
+        1150,
+        OpKind::Fy,
+        &[CHECK, TRUST, TRUE, CHECKED, FALSE],
+    )?;
+    push_all(&mut known, 900, OpKind::Fy, &[NEGATION])?;
+    push_all(&mut known, 200, OpKind::Fy, &[MINUS])?;
+    push_all(&mut known, 50, OpKind::Fx, &[TILDE])?;
     Ok(known)
 }
 
@@ -25,26 +40,46 @@ pub(crate) fn standard_infixes(alloc: Global) -> Result<Items<Definition>, NoMem
     ensures { IfOk result (λ ds. ds ≡ standard_infixes) }
 {
     let mut known = Items::new(alloc);
-    push_all(&mut known, 1200, OpKind::Xfx, &[15, 16])?; // :- -->
-    push_all(&mut known, 1150, OpKind::Xfx, &[18])?; // :=
-    push_all(&mut known, 1100, OpKind::Xfy, &[6, 4])?; // ; |
-    push_all(&mut known, 1050, OpKind::Xfy, &[25])?; // ->
-    push_all(&mut known, 1050, OpKind::Xfx, &[26])?; // ?
-    push_all(&mut known, 1000, OpKind::Xfy, &[3])?; // ,
-    push_all(&mut known, 980, OpKind::Xfx, &[27])?; // #
-    push_all(&mut known, 975, OpKind::Xfx, &[28])?; // =>
+    push_all(&mut known, 1200, OpKind::Xfx, &[NECK, GRAMMAR_ARROW])?;
+    push_all(&mut known, 1150, OpKind::Xfx, &[DEFINES])?;
+    push_all(&mut known, 1100, OpKind::Xfy, &[SEMICOLON, BAR])?;
+    push_all(&mut known, 1050, OpKind::Xfy, &[ARROW])?;
+    push_all(&mut known, 1050, OpKind::Xfx, &[QUESTION])?;
+    push_all(&mut known, 1000, OpKind::Xfy, &[COMMA])?;
+    push_all(&mut known, 980, OpKind::Xfx, &[HASH])?;
+    push_all(&mut known, 975, OpKind::Xfx, &[IMPLIES])?;
     push_all(&mut known, 700, OpKind::Xfx, &COMPARISONS)?;
-    push_all(&mut known, 550, OpKind::Xfx, &[46])?; // :
-    push_all(&mut known, 500, OpKind::Yfx, &[47, 48])?; // + -
-    push_all(&mut known, 400, OpKind::Yfx, &[49, 50, 51, 52, 53])?; // * / // rem mod
-    push_all(&mut known, 200, OpKind::Xfx, &[54])?; // **
-    push_all(&mut known, 200, OpKind::Xfy, &[55])?; // ^
+    push_all(&mut known, 550, OpKind::Xfx, &[COLON])?;
+    push_all(&mut known, 500, OpKind::Yfx, &[PLUS, MINUS])?;
+    push_all(
+        &mut known,
+        400,
+        OpKind::Yfx,
+        &[TIMES, SLASH, QUOTIENT, REMAINDER, MODULO],
+    )?;
+    push_all(&mut known, 200, OpKind::Xfx, &[POWER])?;
+    push_all(&mut known, 200, OpKind::Xfy, &[CARET])?;
     Ok(known)
 }
 
-// = \= == \== @< @> @=< @>= =.. is =:= =\= < > =< >=
+// The operators that compare, or tell what a term is made of.
 const COMPARISONS: [u64; 16] = [
-    30, 31, 32, 33, 34, 35, 36, 37, 38, 39, 40, 41, 42, 43, 44, 45,
+    EQUALS,
+    NOT_EQUALS,
+    SAME,
+    NOT_SAME,
+    BEFORE,
+    AFTER,
+    BEFORE_OR_SAME,
+    AFTER_OR_SAME,
+    UNIV,
+    IS,
+    NUMBER_EQUALS,
+    NUMBER_NOT_EQUALS,
+    LESS,
+    GREATER,
+    LESS_OR_EQUAL,
+    GREATER_OR_EQUAL,
 ];
 
 // Adds these names as operators of one priority and kind.

@@ -1,7 +1,7 @@
 use Rattle.std.proofs.Common.{◌+◌, ◌-◌, ◌≤◌, length}
 use denote.Shadow.{shadow}
 use denote.Text.{Utf8}
-use Rattle.term_core.specs.Names.{IsPrefix}
+use Rattle.term_core.specs.Lists.{IsPrefix}
 use Rattle.ciao_tokens.specs.TokensRead.{stand}
 use Rattle.ciao_tokens.proofs.TokenLaws.{HasRead}
 use Rattle.ciao_tokens.proofs.scanner.tokens_of.Given as goal

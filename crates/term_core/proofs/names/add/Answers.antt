@@ -1,7 +1,8 @@
 use Rattle.std.proofs.Common.{ap, ◌∙◌, sym, subst}
 use Rattle.std.proofs.lemmas.Slice.Eq.{bytes_eq-Decides}
 use Rattle.std.specs.Prelude.{string_bytes, bytes_eq}
-use Rattle.term_core.specs.Names.{place_of, IsPrefix}
+use Rattle.term_core.specs.Names.{place_of}
+use Rattle.term_core.specs.Lists.{IsPrefix}
 use Rattle.term_core.proofs.TextLemmas.{place-texts, insert-texts, front_with, texts_of, text_at}
 use Rattle.term_core.proofs.names.add.Goals as goal
 

@@ -1,5 +1,6 @@
 use Rattle.std.proofs.Common.{subst}
-use Rattle.term_core.specs.Names.{fixed_names, IsPrefix}
+use Rattle.term_core.specs.Names.{fixed_names}
+use Rattle.term_core.specs.Lists.{IsPrefix}
 use Rattle.term_core.proofs.TextLemmas.{front_of_front, texts_of}
 use Rattle.term_core.proofs.names.Names.intern.Goals as goal
 

@@ -1,7 +1,8 @@
 use Rattle.std.proofs.Common.{subst}
 use Rattle.std.specs.Prelude.{bytes_eq, IsUtf8}
 use Rattle.std.specs.List.{IsDistinct, AllByRecursion}
-use Rattle.term_core.specs.Names.{IsPrefix, fixed_names}
+use Rattle.term_core.specs.Names.{fixed_names}
+use Rattle.term_core.specs.Lists.{IsPrefix}
 use Rattle.term_core.proofs.TextLemmas.{distinct-texts, utf8-texts}
 use Rattle.term_core.proofs.names.Names.len.Goals as goal
 

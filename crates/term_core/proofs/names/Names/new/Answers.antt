@@ -1,7 +1,8 @@
 use Rattle.std.proofs.Common.{[], ◌∙◌, ap, map, sym, subst}
 use Rattle.std.proofs.lemmas.List.{append-nil}
 use Rattle.std.specs.Prelude.{string_bytes}
-use Rattle.term_core.specs.Names.{fixed_names, with_texts, IsPrefix}
+use Rattle.term_core.specs.Names.{fixed_names, with_texts}
+use Rattle.term_core.specs.Lists.{IsPrefix}
 use Rattle.term_core.proofs.FixedNames.{all_new}
 use Rattle.term_core.proofs.names.Names.new.Goals as goal
 
