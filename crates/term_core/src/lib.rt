@@ -2,7 +2,9 @@
 #![tactic(auto)]
 
 mod characters;
+mod discarding;
 mod equations;
+mod laws;
 mod memory;
 mod names;
 mod operators;
@@ -14,7 +16,9 @@ mod terms;
 mod tests;
 
 pub use characters::{is_symbol, is_word_part};
+pub use discarding::discard;
 pub use equations::{Binding, Equation, Outcome, unification_law};
+pub use laws::{ranges_law, unified_variants_law, variants_law};
 pub use memory::NoMemory;
 pub use names::{Names, names_law, names_threads_law};
 pub use operators::{
