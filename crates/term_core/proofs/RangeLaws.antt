@@ -1,11 +1,11 @@
 -- Terms in range stay in range.
-use Rattle.std.proofs.Common.{◌≡◌, ◌≤◌, ◌<◌, ◌+◌, ℕ, Bool, true, false, List, [], ◌∷◌, map, length, suc, refl, sym, ap, ◌∙◌, arith, subst}
+use Rattle.std.proofs.Common.{◌≡◌, ◌≤◌, ◌<◌, ◌+◌, ℕ, Bool, true, false, List, [], ◌∷◌, ◌++◌, map, length, suc, true≢false, refl, sym, ap, ◌∙◌, arith, subst}
 use Rattle.std.proofs.lemmas.Bool.Decides.{nat_tests}
-use Rattle.std.proofs.lemmas.Bool.{and_parts}
-use Rattle.std.specs.Prelude.{◌&&◌, nat_lt, nat_le, max}
-use Rattle.std.specs.List.{list_all, AllByRecursion}
+use Rattle.std.proofs.lemmas.Bool.{and_parts, eqb-true}
+use Rattle.std.specs.Prelude.{◌&&◌, ◌||◌, nat_lt, nat_le, nat_eq, max, flat_map, if◌then◌else◌}
+use Rattle.std.specs.List.{list_all, list_any, AllByRecursion}
 use Rattle.term_core.specs.declared.terms.Term.{Term, Var, Node}
-use Rattle.term_core.specs.Terms.{instance, instance_step, rename, higher, above, above_step, greatest}
+use Rattle.term_core.specs.Terms.{instance, instance_step, rename, higher, above, above_step, greatest, occurrences, occurrences_step, with_new, with_all_new, vars}
 use Rattle.term_core.specs.Ranges.{is_compound, has_names, has_names_step, IsInRange, RangesStay}
 use Rattle.term_core.proofs.TermFolds.{fold-Var, fold-Int, fold-Atom, fold-Node, ind_terms}
 use Rattle.term_core.proofs.TermLaws.{instance-Var, instance-Node, map_itself}
@@ -75,6 +75,57 @@ above_instance v w value below =
     each [] h le = omega arith
     each (t ∷ ts) h le = let p : _ = h.0 (omega (arith, le)) in let q : _ = each ts h.1 (omega (arith, le)) in omega (arith, p, q)
 
+-- variables
+
+pub all_parts : {A : Type 0} (P : A → Type 0) (xs ys : List A) → AllByRecursion P (xs ++ ys) → AllByRecursion P xs × AllByRecursion P ys
+all_parts P [] ys h = (tt, h)
+all_parts P (x ∷ xs) ys h = let rest = all_parts P xs ys h.1 in ((h.0, rest.0), rest.1)
+
+-- what is found among numbers of which something holds
+found : (P : ℕ → Type 0) (v : ℕ) (ws : List ℕ) → list_any (nat_eq v) ws ≡ true → AllByRecursion P ws → P v
+found P v [] e h = absurd (true≢false (sym e))
+found P v (w ∷ ws) e h = by (nat_eq v w) refl e (λ rest. found P v ws rest h.1)
+  where
+    by : (b : Bool) → nat_eq v w ≡ b → (b || list_any (nat_eq v) ws) ≡ true → (list_any (nat_eq v) ws ≡ true → P v) → P v
+    by true same e later = subst P (sym (eqb-true v w same)) h.0
+    by false other e later = later e
+
+-- what holds of all variables once the new ones are added holds of those that were there and of those that were added
+one_added : (P : ℕ → Type 0) (seen : List ℕ) (v : ℕ) → AllByRecursion P (with_new seen v) → AllByRecursion P seen × P v
+one_added P seen v h = by (list_any (nat_eq v) seen) refl h
+  where
+    by : (b : Bool) → list_any (nat_eq v) seen ≡ b → AllByRecursion P (if b then seen else seen ++ v ∷ []) → AllByRecursion P seen × P v
+    by true e h = (h, found P v seen e h)
+    by false e h = let parts = all_parts P seen (v ∷ []) h in (parts.0, parts.1.0)
+
+all_added : (P : ℕ → Type 0) (seen vs : List ℕ) → AllByRecursion P (with_all_new seen vs) → AllByRecursion P seen × AllByRecursion P vs
+all_added P seen [] h = (h, tt)
+all_added P seen (v ∷ vs) h =
+    let rest = all_added P (with_new seen v) vs h in
+    let first = one_added P seen v rest.0 in
+    (first.0, (first.1, rest.1))
+
+above_occurrences : (v : ℕ) (t : Term) → AllByRecursion (λ x. x < v) (occurrences t) → above t ≤ v
+above_occurrences v =
+    ind_terms (λ t. AllByRecursion (λ x. x < v) (occurrences t) → above t ≤ v)
+    (λ x h. let lt : x < v = (subst (AllByRecursion (λ y. y < v)) (fold-Var (List ℕ) occurrences_step x) h).0 in let p : _ = above-Var x in omega (arith, p, lt))
+    (λ i h. let p : _ = fold-Int ℕ above_step i in omega (arith, p))
+    (λ a h. let p : _ = fold-Atom ℕ above_step a in omega (arith, p))
+    (λ f ts ih h. subst (λ k. k ≤ v) (sym (above-Node f ts)) (each ts ih (subst (AllByRecursion (λ y. y < v)) (fold-Node (List ℕ) occurrences_step f ts) h)))
+  where
+    each : (ts : List Term) → AllByRecursion (λ t. AllByRecursion (λ x. x < v) (occurrences t) → above t ≤ v) ts → AllByRecursion (λ x. x < v) (flat_map (λ vs. vs) (map occurrences ts)) → greatest (map above ts) ≤ v
+    each [] ih h = omega arith
+    each (t ∷ ts) ih h =
+        let parts = all_parts (λ x. x < v) (occurrences t) _ h in
+        let p : _ = ih.0 parts.0 in
+        let q : _ = each ts ih.1 parts.1 in
+        omega (arith, p, q)
+
+above_variables : (v : ℕ) (t : Term) → AllByRecursion (λ x. x < v) (vars t) → above t ≤ v
+above_variables v t h = above_occurrences v t (all_added (λ x. x < v) [] (occurrences t) h).1
+
+-- terms in range
+
 range_instance : (n v w : ℕ) (value : ℕ → Term) (t : Term) → IsInRange n v t → ((x : ℕ) → x < v → IsInRange n w (value x)) → IsInRange n w (instance value t)
 range_instance n v w value t is values = record {
   named = names_instance n v value (λ x lt. (values x lt).named) t is.below is.named;
@@ -89,4 +140,5 @@ ranges_stay = record {
   widened = λ n m v w t le more is. record { named = names_widened n m t le is.named; below = let p : _ = is.below in omega (arith, p, more) };
   instances = range_instance;
   renamed = λ n v base t is. range_instance n v (v + base) (higher base) t is (λ x lt. variable_in n (v + base) (x + base) (omega (arith, lt)));
+  numbered = above_variables;
 }

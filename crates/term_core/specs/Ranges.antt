@@ -1,10 +1,10 @@
 -- Terms in range: their names are among the names, their compounds have 1 to 255 arguments, their variables are below a number.
 use Rattle.std.specs.Prelude.{◌≡◌, ◌≤◌, ◌<◌, ℕ, ◌+◌, nat_lt, nat_le, Bool, true, ◌&&◌, List, length}
-use Rattle.std.specs.List.{list_all}
+use Rattle.std.specs.List.{list_all, AllByRecursion}
 use Rattle.term_core.specs.declared.terms.Term.{Term}
 use Rattle.term_core.specs.declared.terms.Term.TheOpen.{Term-F, Var, Int, Atom, Node}
 use Rattle.term_core.specs.declared.terms.Term.TheFolds.{fold-Term}
-use Rattle.term_core.specs.Terms.{instance, rename, above}
+use Rattle.term_core.specs.Terms.{instance, rename, above, vars}
 
 -- a name below n with 1 to 255 arguments, each of which is in range
 abbrev pub is_compound : ℕ → ℕ → List Bool → Bool
@@ -25,8 +25,9 @@ pub record IsInRange (names variables : ℕ) (t : Term) : Type 0 where
   pub named : has_names names t ≡ true
   pub below : above t ≤ variables
 
--- a term in range stays in range: with more names and variables, when terms in range are put for its variables, and when these are renamed
+-- a term in range stays in range: with more names and variables, when terms in range are put for its variables, and when these are renamed; where its distinct variables are below a number, it is
 pub record RangesStay : Type 0 where
   pub widened : (n m v w : ℕ) (t : Term) → n ≤ m → v ≤ w → IsInRange n v t → IsInRange m w t
   pub instances : (n v w : ℕ) (value : ℕ → Term) (t : Term) → IsInRange n v t → ((x : ℕ) → x < v → IsInRange n w (value x)) → IsInRange n w (instance value t)
   pub renamed : (n v base : ℕ) (t : Term) → IsInRange n v t → IsInRange n (v + base) (rename base t)
+  pub numbered : (v : ℕ) (t : Term) → AllByRecursion (λ x. x < v) (vars t) → above t ≤ v

@@ -4,7 +4,7 @@ use Rattle.term_core.specs.declared.terms.Term.{Term}
 use Rattle.term_core.specs.declared.equations.Equation.{Equation}
 use Rattle.term_core.specs.declared.equations.Outcome.{Outcome}
 use Rattle.term_core.specs.declared.equations.Outcome.TheVariants.{Solved, Clash, Cyclic}
-use Rattle.term_core.specs.Terms.{instance}
+use Rattle.term_core.specs.Terms.{instance, numbered}
 use Rattle.term_core.specs.Unify.{Unified}
 use Rattle.term_core.specs.Solutions.{Solves}
 
@@ -37,3 +37,7 @@ VariantsEndAlike = (there back : ℕ → Term) (es es' : List Equation) (o o' : 
 abbrev pub VariantsSolvedAlike : Type 0
 VariantsSolvedAlike = (there back : ℕ → Term) (es es' : List Equation) (value value' : ℕ → Term) → AreVariants there back es es' → IsMostGeneral es value → IsMostGeneral es' value'
     → (t t' : Term) → instance there t ≡ t' → instance (λ v. instance value' (there v)) (instance value t) ≡ instance value' t'
+
+-- a term and an instance of which it is an instance are one term, once their variables are numbered by first appearance
+abbrev pub VariantsNumberedAlike : Type 0
+VariantsNumberedAlike = (there back : ℕ → Term) (t : Term) → instance back (instance there t) ≡ t → numbered (instance there t) ≡ numbered t
