@@ -27,6 +27,8 @@ pub mod PrintedTokens
 pub mod PrintedTrees
 pub mod PrintedVariables
 pub mod PrintedWords
+pub mod RangedSentences
+pub mod RangedTerms
 pub mod ReadBack
 pub mod ReadBackAnswers
 pub mod RenumberedTrees

@@ -34,3 +34,4 @@ pub mod WrittenDigits
 pub mod WrittenQuotes
 pub mod WrittenTokens
 pub mod WrittenWords
+pub mod NamedTokens
