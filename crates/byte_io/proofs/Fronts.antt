@@ -11,3 +11,8 @@ grown_twice (Some w) a b = ap Some (append_assoc w a b)
 pub grown_more : (w v u : Option (List ℕ)) (text : List ℕ) (done count : ℕ) → v ≡ grown w (take done text) → u ≡ grown v (take count (take (length text - done) (drop done text))) → u ≡ grown w (take (done + count) text)
 grown_more w v u text done count before more =
     more ∙ ap (λ x. grown v (take count x)) (take_rest text done) ∙ ap (λ x. grown x (take count (drop done text))) before ∙ grown_twice w _ _ ∙ ap (grown w) (sym (take-add done count text))
+
+-- the same of the bytes themselves
+pub taken_more : (w v u text : List ℕ) (done count : ℕ) → v ≡ w ++ take done text → u ≡ v ++ take count (take (length text - done) (drop done text)) → u ≡ w ++ take (done + count) text
+taken_more w v u text done count before more =
+    more ∙ ap (λ x. v ++ take count x) (take_rest text done) ∙ ap (λ x. x ++ take count (drop done text)) before ∙ append_assoc w _ _ ∙ ap (λ x. w ++ x) (sym (take-add done count text))

@@ -1,7 +1,7 @@
 -- What files and a sink in memory hold.
 use Rattle.std.specs.Prelude.{ℕ, Bool, true, false, nat_eq, List, [], ◌∷◌, Option, Some, None, if◌then◌else◌, bytes_eq}
 use Rattle.std.specs.List.{list_any}
-use Rattle.byte_io.specs.Outside.{Held}
+use Rattle.byte_io.specs.Outside.{Held, FileRead}
 use Rattle.byte_io.specs.declared.memory.Stored.{Stored}
 use Rattle.byte_io.specs.declared.memory.MemFiles.{MemFiles}
 use Rattle.byte_io.specs.declared.memory.MemSink.{MemSink}
@@ -35,6 +35,10 @@ files_failing m = m.failing.items
 -- how many reads there were
 abbrev pub files_calls : MemFiles → ℕ
 files_calls m = m.calls
+
+-- the reads that were made
+abbrev pub files_reads : MemFiles → List FileRead
+files_reads m = m.reads.list
 
 -- the bytes written
 abbrev pub sink_taken : MemSink → List ℕ

@@ -1,6 +1,7 @@
 // The real files and the standard output.
-ghost use Rattle.std.specs.Prelude.{◌≡◌, ℕ, Bool, false, ◌<◌, ◌≤◌, ◌-◌, length, Option, Some, None, IfOk, IfSome};
+ghost use Rattle.std.specs.Prelude.{◌≡◌, ℕ, Bool, false, ◌<◌, ◌≤◌, ◌-◌, [], length, Option, Some, None, IfOk, IfSome};
 
+use crate::history::{AnsweredRead, Front, Reads, Taken};
 use crate::memory::raised;
 use crate::{Files, FilesFault, Sink, SinkFault};
 use std::io::{ErrorKind, Print, Read};
@@ -11,14 +12,20 @@ use std::{fs, io, rt};
 pub struct HostFiles<'a, R> {
     rt: &'a R,
     faults: u64,
+    reads: Reads,
 }
 
 impl<'a, R: rt::Files + AllocGlobal> HostFiles<'a, R> {
-    /// No read has failed.
+    /// No read was made.
     pub fn new(rt: &'a R) -> Self
-        ensures { result.faults ≡ 0 }
+        ensures faults { result.faults ≡ 0 }
+        ensures reads { result.reads.list ≡ [] }
     {
-        HostFiles { rt, faults: 0 }
+        HostFiles {
+            rt,
+            faults: 0,
+            reads: Reads::new(),
+        }
     }
 }
 
@@ -94,35 +101,49 @@ fn read_file<R: rt::Files + AllocGlobal>(
 impl<'a, R: rt::Files + AllocGlobal> Files for HostFiles<'a, R> {
     ghost held = { λ _. None };
 
+    ghost reads = { λ f. f.reads.list };
+
     ghost faults = { λ f. f.faults };
 
     ghost steady = { λ _. false };
 
     fn read(&mut self, name: &str, most: u64) -> Result<Option<Vec<u8>>, FilesFault> {
-        match read_file(self.rt, name, most) {
-            Ok(answer) => Ok(answer),
-            Err(FilesFault::NoMemory) => Err(FilesFault::NoMemory),
+        let answer = read_file(self.rt, name, most);
+        self.reads = self.reads.then(&AnsweredRead {
+            name,
+            most,
+            answer: &answer,
+        });
+        match answer {
             Err(FilesFault::Failed) => {
                 self.faults = raised(self.faults);
                 Err(FilesFault::Failed)
             }
+            Err(FilesFault::NoMemory) => Err(FilesFault::NoMemory),
+            Ok(given) => Ok(given),
         }
     }
 }
 
-/// The standard output. What was written is not told.
+/// The standard output. What it holds is not told.
 #[derive(Drop)]
 pub struct HostSink<'a, R> {
     rt: &'a R,
     faults: u64,
+    taken: Taken,
 }
 
 impl<'a, R: Print> HostSink<'a, R> {
-    /// No write has failed.
+    /// Nothing was written.
     pub fn new(rt: &'a R) -> Self
-        ensures { result.faults ≡ 0 }
+        ensures faults { result.faults ≡ 0 }
+        ensures taken { result.taken.bytes ≡ [] }
     {
-        HostSink { rt, faults: 0 }
+        HostSink {
+            rt,
+            faults: 0,
+            taken: Taken::new(),
+        }
     }
 }
 
@@ -148,13 +169,18 @@ fn write_some<R: Print>(rt: &R, piece: &[u8]) -> Result<usize, SinkFault>
 impl<'a, R: Print> Sink for HostSink<'a, R> {
     ghost written = { λ _. None };
 
+    ghost taken = { λ s. s.taken.bytes };
+
     ghost faults = { λ s. s.faults };
 
     ghost steady = { λ _. false };
 
     fn write(&mut self, piece: &[u8]) -> Result<usize, SinkFault> {
         match write_some(self.rt, piece) {
-            Ok(count) => Ok(count),
+            Ok(count) => {
+                self.taken = self.taken.then(&Front { piece, count });
+                Ok(count)
+            }
             Err(SinkFault::NoMemory) => Err(SinkFault::NoMemory),
             Err(SinkFault::Failed) => {
                 self.faults = raised(self.faults);

@@ -2,6 +2,7 @@
 #![tactic(auto)]
 
 mod files;
+mod history;
 mod host;
 mod memory;
 mod sink;

@@ -1,8 +1,9 @@
 // Files and a sink in memory, which fail at the calls that they are told.
-ghost use Rattle.std.specs.Prelude.{◌≡◌, ℕ, ◌<◌, ◌≤◌, ◌+◌, List, [], ◌∷◌, ◌++◌, take, Option, Some, None, option_map, OnOk, OnErr, IfOk, IfSome, IfNone, IsErrOf, min, max, true, false, length, ◌^◌, ◌-◌};
-ghost use Rattle.byte_io.specs.Outside.{Rose, HasCause, grown, StaysSteady};
+ghost use Rattle.std.specs.Prelude.{◌≡◌, ◌↔◌, ℕ, ◌<◌, ◌≤◌, ◌+◌, List, [], ◌∷◌, ◌++◌, take, Option, Some, None, option_map, OnOk, OnErr, IfOk, IfSome, IfNone, IsErrOf, min, max, true, false, length, vec_items, ◌^◌, ◌-◌};
+ghost use Rattle.byte_io.specs.Outside.{Rose, HasCause, grown, answer_of, StaysSteady};
 ghost use Rattle.byte_io.specs.Memory.{content_in};
 
+use crate::history::{AnsweredRead, Reads};
 use crate::{Files, FilesFault, Sink, SinkFault};
 use std::alloc::Global;
 
@@ -34,6 +35,7 @@ pub struct MemFiles {
     failing: Vec<u64>,
     calls: u64,
     faults: u64,
+    reads: Reads,
 }
 
 // The bytes of the last entry of that name.
@@ -50,7 +52,7 @@ fn find<'a>(stored: &'a [Stored], name: &[u8]) -> Option<&'a [u8]>
 }
 
 impl MemFiles {
-    ghost use Rattle.byte_io.specs.Memory.{files_held, files_faults, files_failing, files_calls, with_file};
+    ghost use Rattle.byte_io.specs.Memory.{files_held, files_faults, files_failing, files_calls, files_reads, is_listed, with_file};
 
     /// No file, and no call that fails.
     pub fn new(alloc: Global) -> Self
@@ -58,6 +60,7 @@ impl MemFiles {
         ensures faults { files_faults result ≡ 0 }
         ensures failing { files_failing result ≡ [] }
         ensures calls { files_calls result ≡ 0 }
+        ensures reads { files_reads result ≡ [] }
     {
         MemFiles {
             alloc,
@@ -65,6 +68,7 @@ impl MemFiles {
             failing: Vec::new(alloc),
             calls: 0,
             faults: 0,
+            reads: Reads::new(),
         }
     }
 
@@ -76,6 +80,7 @@ impl MemFiles {
         ensures faults { files_faults self.new ≡ files_faults self.old }
         ensures failing { files_failing self.new ≡ files_failing self.old }
         ensures calls { files_calls self.new ≡ files_calls self.old }
+        ensures reads { files_reads self.new ≡ files_reads self.old }
     {
         let Ok(name) = name.as_bytes().to_vec(self.alloc) else {
             return Err(NoMemory);
@@ -96,40 +101,21 @@ impl MemFiles {
         ensures held { files_held self.new ≡ files_held self.old }
         ensures faults { files_faults self.new ≡ files_faults self.old }
         ensures calls { files_calls self.new ≡ files_calls self.old }
+        ensures reads { files_reads self.new ≡ files_reads self.old }
     {
         match self.failing.push(call) {
             Ok(()) => Ok(()),
             Err(_) => Err(NoMemory),
         }
     }
-}
 
-impl Files for MemFiles {
-    ghost use Rattle.byte_io.specs.Memory.{files_held, files_faults, files_failing, files_calls, is_listed, none_fails};
-
-    ghost held = { λ m. Some (files_held m) };
-
-    ghost faults = { λ m. m.faults };
-
-    ghost steady = { λ m. none_fails m.failing.items };
-
-    // The trait's clauses, and: the reads that fail are those that were listed.
-    fn read(&mut self, name: &str, most: u64) -> Result<Option<Vec<u8>>, FilesFault>
-        ensures bytes { IfOk result (λ answer. option_map (λ bytes. bytes.items) answer ≡ option_map (take most) (files_held self.old name.now)) }
+    // The answer of the next read.
+    fn answer(&self, name: &str, most: u64) -> Result<Option<Vec<u8>>, FilesFault>
+        ensures bytes { IfOk result (λ answer. option_map (λ bytes. bytes.items) answer ≡ option_map (take most) (files_held self.now name.now)) }
         ensures most { IfOk result (λ answer. IfSome answer (λ bytes. length bytes.items ≤ most)) }
-        ensures same { files_held self.new ≡ files_held self.old }
-        ensures cause { HasCause FilesFault.Failed (files_faults self.old) (files_faults self.new) result }
-        ensures steady { StaysSteady (none_fails (files_failing self.old)) (none_fails (files_failing self.new)) (files_faults self.old) (files_faults self.new) }
-        ensures listed { is_listed (files_failing self.old) (files_calls self.old) ≡ true → IsErrOf result FilesFault.Failed }
-        ensures counted { is_listed (files_failing self.old) (files_calls self.old) ≡ true → files_faults self.new ≡ min (files_faults self.old + 1) (2 ^ 64 - 1) }
-        ensures quiet { is_listed (files_failing self.old) (files_calls self.old) ≡ false → files_faults self.new ≡ files_faults self.old }
-        ensures failing { files_failing self.new ≡ files_failing self.old }
-        ensures calls { files_calls self.new ≡ min (files_calls self.old + 1) (2 ^ 64 - 1) }
+        ensures listed { IsErrOf result FilesFault.Failed ↔ (is_listed (files_failing self.now) (files_calls self.now) ≡ true) }
     {
-        let call = self.calls;
-        self.calls = call.saturating_add(1);
-        if self.failing.contains(&call) {
-            self.faults = raised(self.faults);
+        if self.failing.contains(&self.calls) {
             return Err(FilesFault::Failed);
         }
         let Some(bytes) = find(&self.stored, name.as_bytes()) else {
@@ -139,6 +125,49 @@ impl Files for MemFiles {
         match front.to_vec(self.alloc) {
             Ok(copy) => Ok(Some(copy)),
             Err(_) => Err(FilesFault::NoMemory),
+        }
+    }
+}
+
+impl Files for MemFiles {
+    ghost use Rattle.byte_io.specs.Memory.{files_held, files_faults, files_failing, files_calls, files_reads, is_listed, none_fails};
+
+    ghost held = { λ m. Some (files_held m) };
+
+    ghost reads = { λ m. m.reads.list };
+
+    ghost faults = { λ m. m.faults };
+
+    ghost steady = { λ m. none_fails m.failing.items };
+
+    // The trait's clauses, and: the reads that fail are those that were listed.
+    fn read(&mut self, name: &str, most: u64) -> Result<Option<Vec<u8>>, FilesFault>
+        ensures bytes { IfOk result (λ answer. option_map (λ bytes. bytes.items) answer ≡ option_map (take most) (files_held self.old name.now)) }
+        ensures most { IfOk result (λ answer. IfSome answer (λ bytes. length bytes.items ≤ most)) }
+        ensures told { files_reads self.new ≡ files_reads self.old ++ record { name = name.now; most = most; answer = answer_of vec_items result } ∷ [] }
+        ensures same { files_held self.new ≡ files_held self.old }
+        ensures cause { HasCause FilesFault.Failed (files_faults self.old) (files_faults self.new) result }
+        ensures steady { StaysSteady (none_fails (files_failing self.old)) (none_fails (files_failing self.new)) (files_faults self.old) (files_faults self.new) }
+        ensures listed { IsErrOf result FilesFault.Failed ↔ (is_listed (files_failing self.old) (files_calls self.old) ≡ true) }
+        ensures counted { is_listed (files_failing self.old) (files_calls self.old) ≡ true → files_faults self.new ≡ min (files_faults self.old + 1) (2 ^ 64 - 1) }
+        ensures quiet { is_listed (files_failing self.old) (files_calls self.old) ≡ false → files_faults self.new ≡ files_faults self.old }
+        ensures failing { files_failing self.new ≡ files_failing self.old }
+        ensures calls { files_calls self.new ≡ min (files_calls self.old + 1) (2 ^ 64 - 1) }
+    {
+        let answer = self.answer(name, most);
+        self.reads = self.reads.then(&AnsweredRead {
+            name,
+            most,
+            answer: &answer,
+        });
+        self.calls = self.calls.saturating_add(1);
+        match answer {
+            Err(FilesFault::Failed) => {
+                self.faults = raised(self.faults);
+                Err(FilesFault::Failed)
+            }
+            Err(FilesFault::NoMemory) => Err(FilesFault::NoMemory),
+            Ok(given) => Ok(given),
         }
     }
 }
@@ -213,6 +242,8 @@ impl Sink for MemSink {
 
     ghost written = { λ m. Some m.taken.items };
 
+    ghost taken = { λ m. m.taken.items };
+
     ghost faults = { λ m. m.faults };
 
     ghost steady = { λ m. none_fails m.failing.items };
@@ -222,12 +253,14 @@ impl Sink for MemSink {
         requires { 0 < length piece.now }
         ensures some { IfOk result (λ count. 0 < count) }
         ensures within { IfOk result (λ count. count ≤ length piece.now) }
-        ensures taken { IfOk result (λ count. Some (sink_taken self.new) ≡ grown (Some (sink_taken self.old)) (take count piece.now)) }
+        ensures taken { IfOk result (λ count. sink_taken self.new ≡ sink_taken self.old ++ take count piece.now) }
+        ensures untaken { OnErr result (sink_taken self.new ≡ sink_taken self.old) }
+        ensures written { IfOk result (λ count. Some (sink_taken self.new) ≡ grown (Some (sink_taken self.old)) (take count piece.now)) }
         ensures count { IfOk result (λ count. count ≡ min (max (sink_limit self.old) 1) (length piece.now)) }
         ensures refused { OnErr result (Some (sink_taken self.new) ≡ Some (sink_taken self.old)) }
         ensures cause { HasCause SinkFault.Failed (sink_faults self.old) (sink_faults self.new) result }
         ensures steady { StaysSteady (none_fails (sink_failing self.old)) (none_fails (sink_failing self.new)) (sink_faults self.old) (sink_faults self.new) }
-        ensures listed { is_listed (sink_failing self.old) (sink_calls self.old) ≡ true → IsErrOf result SinkFault.Failed }
+        ensures listed { IsErrOf result SinkFault.Failed ↔ (is_listed (sink_failing self.old) (sink_calls self.old) ≡ true) }
         ensures counted { is_listed (sink_failing self.old) (sink_calls self.old) ≡ true → sink_faults self.new ≡ min (sink_faults self.old + 1) (2 ^ 64 - 1) }
         ensures quiet { is_listed (sink_failing self.old) (sink_calls self.old) ≡ false → sink_faults self.new ≡ sink_faults self.old }
         ensures failing { sink_failing self.new ≡ sink_failing self.old }

@@ -27,6 +27,8 @@ mod PrintedTokens
 mod PrintedTrees
 mod PrintedVariables
 mod PrintedWords
+mod RangedSentences
+mod RangedTerms
 mod ReadBack
 mod ReadBackAnswers
 mod RenumberedTrees

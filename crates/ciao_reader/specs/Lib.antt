@@ -8,3 +8,4 @@ pub mod Faults
 pub mod Parts
 pub mod Steps
 pub mod Laws
+pub mod Ranges

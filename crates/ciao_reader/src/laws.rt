@@ -3,9 +3,11 @@ ghost use Rattle.std.specs.Prelude.{ℕ, List};
 ghost use Rattle.term_core.specs.Standard.{IsMade};
 ghost use Rattle.term_core.specs.declared.operators.Operators.{Operators};
 ghost use Rattle.ciao_reader.specs.ReadingBack.{ReadsBack};
+ghost use Rattle.ciao_reader.specs.Ranges.{SentencesAreInRange, GoalsAreInRange};
 ghost use Rattle.ciao_reader.specs.Laws.{OneReading, OneSource, NoFault, OneFault, OneGoal, NoGoalFault, OneGoalFault, EveryText, EveryGoal, NumberedFromZero};
 
-use ciao_tokens::written_law;
+use ciao_tokens::{named_tokens_law, written_law};
+use term_core::ranges_law;
 
 /// Tokens have at most one derivation of priority 1200 or less, by each table of operators that can be made.
 pub fn one_reading_law()
@@ -47,4 +49,14 @@ pub fn reading_back_law()
     ensures { ReadsBack }
 {
     written_law();
+}
+
+/// The sentences of a text, and a goal, are in range: their names are among the names after the text, their compounds have
+/// 1 to 255 arguments and their variables are below the number that they tell.
+pub fn in_range_law()
+    ensures sentences { SentencesAreInRange }
+    ensures goals { GoalsAreInRange }
+{
+    named_tokens_law();
+    ranges_law();
 }

@@ -34,3 +34,4 @@ mod WrittenDigits
 mod WrittenQuotes
 mod WrittenTokens
 mod WrittenWords
+mod NamedTokens

@@ -42,7 +42,7 @@ any_at_end p [] word e = or_left _ _ e
 any_at_end p (n ∷ ns) word e = or_right (p n) _ (any_at_end p ns word e)
 
 -- a name that was added is there
-is_there : (names : List (List ℕ)) (word : List ℕ) → list_any (bytes_eq word) (with_text names word) ≡ true
+pub is_there : (names : List (List ℕ)) (word : List ℕ) → list_any (bytes_eq word) (with_text names word) ≡ true
 is_there names word = by (list_any (bytes_eq word) names) refl
   where
     by : (b : Bool) → list_any (bytes_eq word) names ≡ b → list_any (bytes_eq word) (if b then names else names ++ word ∷ []) ≡ true

@@ -12,3 +12,4 @@ pub mod Scanning
 pub mod PartsRead
 pub mod NumbersRead
 pub mod TokensRead
+pub mod Ranges

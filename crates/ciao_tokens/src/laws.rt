@@ -1,6 +1,7 @@
 // The laws of tokens.
 ghost use Rattle.std.specs.Prelude.{ℕ, List};
 ghost use Rattle.ciao_tokens.specs.Laws.{OneCut, OneList, NoFault, OneFault, EveryText, SixWays, InOrder};
+ghost use Rattle.ciao_tokens.specs.Ranges.{TokensAreNamed};
 ghost use Rattle.ciao_tokens.specs.Written.{WrittenIsRead};
 
 /// A text has at most one list of pieces, and with the same names before at most one list of tokens
@@ -35,4 +36,9 @@ pub fn order_law()
 /// What is written as a token is that token, before nothing, a blank or a mark.
 pub fn written_law()
     ensures { WrittenIsRead }
+{}
+
+/// The names of the tokens of a text, and the spellings of their variables, are among the names after it.
+pub fn named_tokens_law()
+    ensures { TokensAreNamed }
 {}

@@ -1,5 +1,8 @@
+pub mod Copies
 pub mod Counting
 mod FixedNames
+pub mod KindLaws
+pub mod NameLaws
 mod Occurrences
 mod OperatorChanges
 mod OperatorLists
@@ -7,13 +10,16 @@ pub mod OperatorTables
 mod OperatorTies
 mod OperatorTorn
 mod QuotingLemmas
+pub mod RangeLaws
 mod ShortLists
+mod SizeLaws
 pub mod Sizes
+mod Solving
+mod TailLemmas
 pub mod TermFolds
 pub mod TermLaws
-mod TailLemmas
 mod TextLemmas
-mod Solving
 pub mod Turns
 pub mod UnifyEnds
 pub mod VarLemmas
+pub mod VariantLaws

@@ -4,8 +4,11 @@ pub mod Names
 pub mod OperatorLaws
 pub mod Operators
 pub mod Printing
+pub mod Ranges
 pub mod Shapes
+pub mod Sizes
 pub mod Solutions
 pub mod Standard
 pub mod Terms
 pub mod Unify
+pub mod Variants

@@ -2,8 +2,10 @@
 #![tactic(auto)]
 
 mod characters;
+mod discarding;
 mod equations;
 mod fixed;
+mod laws;
 mod lists;
 mod memory;
 mod names;
@@ -21,6 +23,7 @@ pub use characters::is_point;
 pub use characters::is_symbol;
 pub use characters::is_word_part;
 pub use characters::opens_comment;
+pub use discarding::discard;
 pub use equations::Binding;
 pub use equations::Equation;
 pub use equations::Outcome;
@@ -100,6 +103,9 @@ pub use fixed::UNIV;
 pub use fixed::VAR;
 pub use fixed::WRITE;
 pub use fixed::WRITEQ;
+pub use laws::ranges_law;
+pub use laws::unified_variants_law;
+pub use laws::variants_law;
 pub use lists::both;
 pub use lists::one;
 pub use lists::with_last;
