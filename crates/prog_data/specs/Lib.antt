@@ -6,3 +6,8 @@ pub mod BasicNames
 pub mod GrammarRange
 pub mod Values
 pub mod Laws
+pub mod Refusals
+pub mod Control
+pub mod TermRanges
+pub mod Ranges
+pub mod Programs
