@@ -1,4 +1,5 @@
+mod ArithmeticValues
 pub mod GoalFolds
 pub mod Leaves
 pub mod MembershipLaws
-pub mod Persistence
+mod Persistence

@@ -1,6 +1,7 @@
 // The grammar names that every program has.
 ghost use Rattle.std.specs.Prelude.{◌≡◌, [], ◌∷◌, IfOk};
 ghost use Rattle.prog_data.specs.BasicNames.{basic_grammar};
+ghost use Rattle.prog_data.specs.GrammarRange.{IsGrammar};
 
 use crate::{Basic, Grammar, Rule};
 use sqlite_items::Items;
@@ -79,7 +80,8 @@ fn first_names(alloc: Global) -> Result<Items<Items<Rule>>, NoMemory>
 /// The grammar of the basic names, which are term, int, nnegint, num, atm, gnd, constant, struct,
 /// callable and list, numbered from 0 (Ciao manual, "Basic data types and properties").
 pub fn basic_grammar(alloc: Global) -> Result<Grammar, NoMemory>
-    ensures { IfOk result (λ grammar. grammar ≡ basic_grammar) }
+    ensures is { IfOk result (λ grammar. grammar ≡ basic_grammar) }
+    ensures range { IfOk result (λ grammar. IsGrammar grammar) }
 {
     let mut rules = first_names(alloc)?;
     rules.push(one_rule(alloc, Rule::Basic(Basic::Gnd))?)?;

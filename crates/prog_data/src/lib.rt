@@ -1,6 +1,7 @@
 //! Programs: goals, clauses, conditions, grammars and events.
 #![tactic(auto)]
 
+mod arithmetic;
 mod basic_names;
 mod conditions;
 mod control;
@@ -11,7 +12,9 @@ mod programs;
 mod queries;
 mod refusals;
 mod tables;
+mod threads;
 
+pub use arithmetic::arithmetic_value_law;
 pub use basic_names::{
     ATM_TYPE, CALLABLE_TYPE, CONSTANT_TYPE, GND_TYPE, INT_TYPE, LIST_TYPE, NNEGINT_TYPE, NUM_TYPE,
     STRUCT_TYPE, TERM_TYPE, basic_grammar,
@@ -27,3 +30,4 @@ pub use programs::{Check, Claim, Clause, Entry, Keyword, Place, Pred, Program};
 pub use queries::called_by;
 pub use refusals::{Refusal, RefusalKind, kind_word};
 pub use tables::{Row, Status, Table, Value, value_persistence_law};
+pub use threads::program_threads_law;
