@@ -1,7 +1,7 @@
 -- What a sentence makes of a table of operators that can be made can be made too.
 use Rattle.std.proofs.Common.{◌≡◌, ℕ, List, [], ◌∷◌, refl, subst, Bool, true, false}
 use Rattle.std.specs.Prelude.{◌==◌, Option, Some, None, if◌then◌else◌, codes, ℤ, bytes_eq, option_and_then}
-use Rattle.term_core.specs.Names as fixed
+use Rattle.term_core.specs.declared.fixed.TheConstants as fixed
 use Rattle.term_core.specs.declared.operators.OpKind.{OpKind}
 use Rattle.term_core.specs.declared.operators.Operators.{Operators}
 use Rattle.term_core.specs.declared.terms.Term.{Term, out-Term}
@@ -52,7 +52,7 @@ module _ (names : List (List ℕ)) (ops : Operators) (made : IsMade ops) where
   after_directive_made other = some_made ops made
 
   after_sentence_made : (t : Term-F Term) → IfMade (after_sentence names ops t)
-  after_sentence_made (Node f (directive ∷ [])) = by (f == fixed.neck)
+  after_sentence_made (Node f (directive ∷ [])) = by (f == fixed.NECK)
     where
       by : (b : Bool) → IfMade (if b then after_directive names ops (out-Term directive) else Some ops)
       by true = after_directive_made (out-Term directive)

@@ -5,7 +5,7 @@ use Rattle.std.specs.List.{list_any, position_or_len}
 use Rattle.std.proofs.lemmas.List.{append_assoc, append-nil, length-append}
 use Rattle.std.proofs.lemmas.List.Folds.{list_any-append}
 use Rattle.std.proofs.lemmas.Bool.{and_parts, eq-eqb, ne_eqb, cases_lt}
-use Rattle.term_core.specs.Names as fixed
+use Rattle.term_core.specs.declared.fixed.TheConstants as fixed
 use Rattle.term_core.specs.declared.terms.Term.{Term}
 use Rattle.term_core.specs.declared.terms.Term as term
 use Rattle.term_core.specs.Terms.{occurrences, occurrences_step, vars, with_new, with_all_new}
@@ -54,18 +54,18 @@ at_atom a = fold-Atom (List ℕ) occurrences_step a
 
 at_list : (ts : List Term) (tail : Term) → occurrences (list_term ts tail) ≡ flat_map occurrences ts ++ occurrences tail
 at_list [] tail = refl
-at_list (t ∷ ts) tail = at_two fixed.cell t (list_term ts tail) ∙ ap (λ ns. occurrences t ++ ns) (at_list ts tail) ∙ sym (append_assoc (occurrences t) (flat_map occurrences ts) (occurrences tail))
+at_list (t ∷ ts) tail = at_two fixed.CELL t (list_term ts tail) ∙ ap (λ ns. occurrences t ++ ns) (at_list ts tail) ∙ sym (append_assoc (occurrences t) (flat_map occurrences ts) (occurrences tail))
 
 at_codes : (cs : List ℕ) → occurrences (codes_term cs) ≡ []
-at_codes [] = at_atom fixed.nil
-at_codes (c ∷ cs) = at_two fixed.cell (term.Int (pos c)) (codes_term cs) ∙ ap (λ ns. ns ++ occurrences (codes_term cs)) (fold-Int (List ℕ) occurrences_step (pos c)) ∙ at_codes cs
+at_codes [] = at_atom fixed.NIL
+at_codes (c ∷ cs) = at_two fixed.CELL (term.Int (pos c)) (codes_term cs) ∙ ap (λ ns. ns ++ occurrences (codes_term cs)) (fold-Int (List ℕ) occurrences_step (pos c)) ∙ at_codes cs
 
 -- in brackets
 closed : (xs : List Word) (w : Word) → number_in w ≡ [] → numbers_in (xs ++ w ∷ []) ≡ numbers_in xs
 closed xs w e = numbers_append xs (w ∷ []) ∙ ap (λ ns. numbers_in xs ++ (ns ++ [])) e ∙ append-nil (numbers_in xs)
 
 infix_number : (f : ℕ) → number_in (infix_word f) ≡ []
-infix_number f = by (f == fixed.comma) (f == fixed.bar)
+infix_number f = by (f == fixed.COMMA) (f == fixed.BAR)
   where
     by : (b c : Bool) → number_in (if b then word.Comma else if c then word.Bar else word.Between f) ≡ []
     by true c = refl
@@ -79,13 +79,13 @@ mutual
   same_numbers (variable v) = fold-Var (List ℕ) occurrences_step v
   same_numbers (text cs) = at_codes cs
   same_numbers (atom a) = at_atom a
-  same_numbers no_items = at_atom fixed.nil
-  same_numbers no_braces = at_atom fixed.braces
+  same_numbers no_items = at_atom fixed.NIL
+  same_numbers no_braces = at_atom fixed.BRACES
   same_numbers (call f ts) = at_node f (terms_of ts) ∙ all_numbers ts ∙ sym (closed (words_of_all ts) word.CloseParen refl)
   same_numbers (parens t) = same_numbers t ∙ sym (closed (words t) word.CloseParen refl)
-  same_numbers (braces t) = at_one fixed.braces (term_of t) ∙ same_numbers t ∙ sym (closed (words t) word.CloseCurly refl)
+  same_numbers (braces t) = at_one fixed.BRACES (term_of t) ∙ same_numbers t ∙ sym (closed (words t) word.CloseCurly refl)
   same_numbers (items ts) =
-      at_list (terms_of ts) (term.Atom fixed.nil) ∙ ap (λ ns. flat_map occurrences (terms_of ts) ++ ns) (at_atom fixed.nil) ∙ append-nil (flat_map occurrences (terms_of ts)) ∙ all_numbers ts
+      at_list (terms_of ts) (term.Atom fixed.NIL) ∙ ap (λ ns. flat_map occurrences (terms_of ts) ++ ns) (at_atom fixed.NIL) ∙ append-nil (flat_map occurrences (terms_of ts)) ∙ all_numbers ts
       ∙ sym (closed (words_of_all ts) word.CloseList refl)
   same_numbers (items_and_tail ts t) =
       at_list (terms_of ts) (term_of t) ∙ ap (λ ns. ns ++ occurrences (term_of t)) (all_numbers ts) ∙ ap (λ ns. numbers_in (words_of_all ts) ++ ns) (same_numbers t ∙ sym (closed (words t) word.CloseList refl))
@@ -148,7 +148,7 @@ module _ (names : List (List ℕ)) (ops : Operators) where
 
   -- a token's word adds the next number, or none
   token_number : (due : Bool) (seen : List ℕ) (k : TokenKind) (ts : List Token) → with_all_new (below (length seen)) (number_in (role names ops due seen k ts)) ≡ below (length (with_variable names seen k))
-  token_number due seen (kind.Name name) ts = ap (with_all_new (below (length seen))) (name_number due name (name == fixed.minus) ts)
+  token_number due seen (kind.Name name) ts = ap (with_all_new (below (length seen))) (name_number due name (name == fixed.MINUS) ts)
   token_number due seen (kind.Quoted name) ts = ap (with_all_new (below (length seen))) (name_number due name false ts)
   token_number due seen (kind.Variable v) ts = by (is_known names seen v) refl
     where

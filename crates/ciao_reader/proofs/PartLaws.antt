@@ -3,7 +3,7 @@ use Rattle.std.proofs.Common.{arith, ◌≡◌, ◌<◌, ◌⊎◌, inl, inr, �
 use Rattle.std.specs.Prelude.{nat_le, pos, if◌then◌else◌}
 use Rattle.std.proofs.lemmas.Bool.{leb-false, lt-leb}
 use Rattle.std.proofs.lemmas.List.{append_assoc}
-use Rattle.term_core.specs.Names as fixed
+use Rattle.term_core.specs.declared.fixed.TheConstants as fixed
 use Rattle.term_core.specs.declared.terms.Term.{Term}
 use Rattle.term_core.specs.declared.terms.Term as term
 use Rattle.ciao_reader.specs.declared.parts.Part.{Part}
@@ -21,7 +21,7 @@ capped_kept : (d : ℕ) (x : Term) → Kept ((capped d x).depth) ((capped d x).t
 capped_kept d x = by (nat_le d depth_limit) refl
   where
     part : Bool → Part
-    part b = if b then record { term = x; depth = d } else record { term = term.Atom fixed.nil; depth = depth_limit + 1 }
+    part b = if b then record { term = x; depth = d } else record { term = term.Atom fixed.NIL; depth = depth_limit + 1 }
 
     by : (b : Bool) → b ≡ nat_le d depth_limit → Kept ((part b).depth) ((part b).term ∷ []) d (x ∷ [])
     by true e = inl (refl, refl)
@@ -32,8 +32,8 @@ both_kept d e d' e' xs ys xs' ys' (inl (i, j)) (inl (k, l)) = inl (ap (λ n. max
 both_kept d e d' e' xs ys xs' ys' (inl a) (inr (k, l)) = inr (omega (arith, k), omega (arith, l))
 both_kept d e d' e' xs ys xs' ys' (inr (k, l)) b = inr (omega (arith, k), omega (arith, l))
 
-deep_capped : (d : ℕ) (x : Term) → depth_limit < d → capped d x ≡ record { term = term.Atom fixed.nil; depth = depth_limit + 1 }
-deep_capped d x l = ap (λ b. if b then record { term = x; depth = d } else record { term = term.Atom fixed.nil; depth = depth_limit + 1 }) (lt-leb d depth_limit l)
+deep_capped : (d : ℕ) (x : Term) → depth_limit < d → capped d x ≡ record { term = term.Atom fixed.NIL; depth = depth_limit + 1 }
+deep_capped d x l = ap (λ b. if b then record { term = x; depth = d } else record { term = term.Atom fixed.NIL; depth = depth_limit + 1 }) (lt-leb d depth_limit l)
 
 node_kept : (f d e : ℕ) (xs ys : List Term) → Kept d xs e ys → node_part f xs d ≡ capped (e + 1) (term.Node f ys)
 node_kept f d e xs ys (inl (i, j)) = ap (λ n. capped (n + 1) (term.Node f xs)) i ∙ ap (λ zs. capped (e + 1) (term.Node f zs)) j
@@ -52,7 +52,7 @@ pub paren_kept : (t : Tree) → paren_part (part_of t) ≡ part_of (parens t)
 paren_kept t = by (nat_le (depth t) depth_limit) refl
   where
     part : Bool → Part
-    part b = if b then record { term = term_of t; depth = depth t } else record { term = term.Atom fixed.nil; depth = depth_limit + 1 }
+    part b = if b then record { term = term_of t; depth = depth t } else record { term = term.Atom fixed.NIL; depth = depth_limit + 1 }
 
     by : (b : Bool) → b ≡ nat_le (depth t) depth_limit → paren_part (part b) ≡ part_of (parens t)
     by true e = refl
@@ -60,10 +60,10 @@ paren_kept t = by (nat_le (depth t) depth_limit) refl
 
 -- lists
 
-pub codes_kept : (cs : List ℕ) → codes_part cs (leaf (term.Atom fixed.nil)) ≡ part_of (text cs)
+pub codes_kept : (cs : List ℕ) → codes_part cs (leaf (term.Atom fixed.NIL)) ≡ part_of (text cs)
 codes_kept [] = refl
 codes_kept (c ∷ cs) =
-    ap (infix_part fixed.cell (leaf (term.Int (pos c)))) (codes_kept cs) ∙ infix_kept fixed.cell 1 (length cs + 1) (term.Int (pos c)) (codes_term cs)
+    ap (infix_part fixed.CELL (leaf (term.Int (pos c)))) (codes_kept cs) ∙ infix_kept fixed.CELL 1 (length cs + 1) (term.Int (pos c)) (codes_term cs)
     ∙ ap (λ n. capped n (codes_term (c ∷ cs))) (omega arith)
 
 -- what is kept of each
@@ -72,11 +72,11 @@ all_parts (one t) = part_of t ∷ []
 all_parts (more t ts) = part_of t ∷ all_parts ts
 
 list_kept : (ts : Trees) (e : ℕ) (y : Term) → list_part (all_parts ts) (capped e y) ≡ capped (list_depth ts e) (list_term (terms_of ts) y)
-list_kept (one t) e y = infix_kept fixed.cell (depth t) e (term_of t) y
-list_kept (more t ts) e y = ap (infix_part fixed.cell (part_of t)) (list_kept ts e y) ∙ infix_kept fixed.cell (depth t) (list_depth ts e) (term_of t) (list_term (terms_of ts) y)
+list_kept (one t) e y = infix_kept fixed.CELL (depth t) e (term_of t) y
+list_kept (more t ts) e y = ap (infix_part fixed.CELL (part_of t)) (list_kept ts e y) ∙ infix_kept fixed.CELL (depth t) (list_depth ts e) (term_of t) (list_term (terms_of ts) y)
 
-pub items_kept : (ts : Trees) → list_part (all_parts ts) (leaf (term.Atom fixed.nil)) ≡ part_of (items ts)
-items_kept ts = list_kept ts 1 (term.Atom fixed.nil)
+pub items_kept : (ts : Trees) → list_part (all_parts ts) (leaf (term.Atom fixed.NIL)) ≡ part_of (items ts)
+items_kept ts = list_kept ts 1 (term.Atom fixed.NIL)
 
 pub tail_kept : (ts : Trees) (t : Tree) → list_part (all_parts ts) (part_of t) ≡ part_of (items_and_tail ts t)
 tail_kept ts t = list_kept ts (depth t) (term_of t)

@@ -3,7 +3,7 @@ use Rattle.std.proofs.Common.{◌≡◌, ℕ, Bool, true, false, List, [], ◌�
 use Rattle.std.proofs.lemmas.Bool.{and_parts, and_from}
 use Rattle.std.proofs.lemmas.List.{append-nil}
 use Rattle.std.specs.Prelude.{◌==◌, ◌&&◌, if◌then◌else◌}
-use Rattle.term_core.specs.Names as fixed
+use Rattle.term_core.specs.declared.fixed.TheConstants as fixed
 use Rattle.term_core.specs.declared.operators.Operators.{Operators}
 use Rattle.ciao_reader.specs.declared.words.Word.TheVariants as word
 use Rattle.ciao_reader.specs.Derivations.{Tree, Trees, number, negative, variable, text, atom, no_items, no_braces, call, parens, braces, items, items_and_tail, before, between, one, more}
@@ -17,7 +17,7 @@ record Follows (bs : List Bit) : Type 0 where
 
 -- an infix operator stands apart from what is before it and what is behind it
 infix_apart : (f : ℕ) (bs : List Bit) → are_apart bs ≡ true → Follows (infix_bits f ++ bs)
-infix_apart f bs e = by (f == fixed.comma) (f == fixed.bar)
+infix_apart f bs e = by (f == fixed.COMMA) (f == fixed.BAR)
   where
     by : (c b : Bool) → Follows ((if c then bit word.Comma ∷ [] else if b then blank ∷ bit word.Bar ∷ blank ∷ [] else blank ∷ bit (word.Between f) ∷ blank ∷ []) ++ bs)
     by true b = record { first = refl; all = e }

@@ -3,7 +3,7 @@ use Rattle.std.proofs.Common.{arith, ◌≡◌, ◌≤◌, ℕ, Bool, true, fals
 use Rattle.std.specs.Prelude.{not, is_some, if◌then◌else◌, Option, Some, None}
 use Rattle.std.proofs.lemmas.Bool.{and_parts, and_left, and_right, or_parts, leb-true, le-ltb, false≢true}
 use Rattle.std.proofs.lemmas.List.{append_assoc}
-use Rattle.term_core.specs.Names as fixed
+use Rattle.term_core.specs.declared.fixed.TheConstants as fixed
 use Rattle.term_core.specs.declared.operators.Op.{Op}
 use Rattle.term_core.specs.declared.operators.Operators.{Operators}
 use Rattle.term_core.specs.Operators.{prefix_of, infix_of, left_limit}
@@ -48,7 +48,7 @@ module _ (ops : Operators) where
     pub holds : (t : Tree) (behind_name behind_layout : Bool) (rest : List Bit) → fits ops t ≡ true → is_guarded ops t ≡ true → is_operand ops t ≡ true → priority ops t ≤ limit
         → stands_alone ops limit (tokens_of spelling is_bare behind_name behind_layout (bits t ++ rest)) ≡ false
     holds (number n) bn bl rest f g o l = refl
-    holds (negative n) bn bl rest f g o l = and_right (goes_on ops limit fixed.minus (tokens_of spelling is_bare true false (bit (word.Number n) ∷ rest))) false refl
+    holds (negative n) bn bl rest f g o l = and_right (goes_on ops limit fixed.MINUS (tokens_of spelling is_bare true false (bit (word.Number n) ∷ rest))) false refl
     holds (variable v) bn bl rest f g o l = refl
     holds (text cs) bn bl rest f g o l = refl
     holds (atom a) bn bl rest f g o l = name_holds a (tokens_of spelling is_bare true false rest) (and_left _ _ (no_operator a o).1)

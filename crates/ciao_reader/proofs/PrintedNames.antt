@@ -6,7 +6,7 @@ use Rattle.std.proofs.lemmas.Bool.{false_from_ne_true}
 use Rattle.std.proofs.lemmas.List.{length-append}
 use Rattle.std.proofs.lemmas.List.Sums.{passes_at_first}
 use Rattle.std.proofs.lemmas.Slice.Eq.{bytes_eq-Decides}
-use Rattle.term_core.specs.Names as fixed
+use Rattle.term_core.specs.declared.fixed.TheConstants as fixed
 use Rattle.term_core.specs.Names.{fixed_names, place_of, with_text, with_texts, IsPrefix}
 use Rattle.term_core.specs.Printing.{name_text}
 use Rattle.ciao_reader.specs.ReadingBack.{AreNames}
@@ -66,11 +66,11 @@ module _ (names after : List (List ℕ)) (are : AreNames names) (begins : IsPref
       ∙ position_of_distinct bytes_eq same_text other_way names f [] are.distinct within
 
   -- the minus is the fixed one
-  pub minus_kept : place_of (codes "-") after ≡ fixed.minus
-  minus_kept = ap (λ text. place_of text after) is ∙ place_kept fixed.minus within
+  pub minus_kept : place_of (codes "-") after ≡ fixed.MINUS
+  minus_kept = ap (λ text. place_of text after) is ∙ place_kept fixed.MINUS within
     where
-      is : codes "-" ≡ name_text names fixed.minus
-      is = ap (λ all. name_text all fixed.minus) are.begin.1
+      is : codes "-" ≡ name_text names fixed.MINUS
+      is = ap (λ all. name_text all fixed.MINUS) are.begin.1
 
-      within : fixed.minus < length names
-      within = subst (λ all. fixed.minus < length all) are.begin.1 (omega (arith, length-append fixed_names are.begin.0))
+      within : fixed.MINUS < length names
+      within = subst (λ all. fixed.MINUS < length all) are.begin.1 (omega (arith, length-append fixed_names are.begin.0))

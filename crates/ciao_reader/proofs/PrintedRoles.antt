@@ -3,7 +3,7 @@ use Rattle.std.proofs.Common.{◌≡◌, ℕ, Bool, true, false, List, [], ◌�
 use Rattle.std.specs.Prelude.{◌&&◌, ◌==◌, is_some, if◌then◌else◌, Option, Some, None}
 use Rattle.std.proofs.lemmas.Bool.{and_parts, and_right, cond-true, cond-false, leb-true, true≢false, false≢true}
 use Rattle.std.proofs.lemmas.List.{append_assoc, append-nil}
-use Rattle.term_core.specs.Names as fixed
+use Rattle.term_core.specs.declared.fixed.TheConstants as fixed
 use Rattle.term_core.specs.declared.operators.Op.{Op}
 use Rattle.term_core.specs.declared.operators.Operators.{Operators}
 use Rattle.term_core.specs.Operators.{prefix_of, right_limit}
@@ -89,7 +89,7 @@ module _ (names : List (List ℕ)) (ops : Operators) (spelling : ℕ → ℕ) (i
   name_told due bl seen f w ts e = by (is_bare f)
     where
       by : (b : Bool) → roles_from names ops due seen (token_of spelling is_bare (if b then kind.Name f else kind.Quoted f) bl ∷ ts) ≡ w ∷ roles_from names ops (due_behind w) seen ts
-      by true = ap (λ v. v ∷ roles_from names ops (due_behind v) seen ts) (e (f == fixed.minus))
+      by true = ap (λ v. v ∷ roles_from names ops (due_behind v) seen ts) (e (f == fixed.MINUS))
       by false = ap (λ v. v ∷ roles_from names ops (due_behind v) seen ts) (e false)
 
   -- a name where an operand is due, that calls nothing and is no sign
@@ -229,7 +229,7 @@ module _ (names : List (List ℕ)) (ops : Operators) (spelling : ℕ → ℕ) (i
   -- the word of an infix operator and its right argument
   right_told : (f : ℕ) (u : Tree) → IsTold u → (seen : List ℕ) (rest : List Bit) → may_follow u rest ≡ true
       → behind (infix_bits f ++ (bits u ++ rest)) seen ≡ told names spelling seen (infix_word f ∷ words u) (behind rest)
-  right_told f u told_u seen rest m = by (f == fixed.comma) (f == fixed.bar)
+  right_told f u told_u seen rest m = by (f == fixed.COMMA) (f == fixed.BAR)
     where
       by : (b c : Bool) → behind ((if b then bit word.Comma ∷ [] else if c then blank ∷ bit word.Bar ∷ blank ∷ [] else blank ∷ bit (word.Between f) ∷ blank ∷ []) ++ (bits u ++ rest)) seen
           ≡ told names spelling seen ((if b then word.Comma else if c then word.Bar else word.Between f) ∷ words u) (behind rest)
@@ -239,7 +239,7 @@ module _ (names : List (List ℕ)) (ops : Operators) (spelling : ℕ → ℕ) (i
 
   -- an infix operator may stand behind its left argument
   infix_follows : (f : ℕ) (t : Tree) (bs : List Bit) → is_operand ops t ≡ true → may_follow t (infix_bits f ++ bs) ≡ true
-  infix_follows f t bs e = by (f == fixed.comma) (f == fixed.bar)
+  infix_follows f t bs e = by (f == fixed.COMMA) (f == fixed.BAR)
     where
       by : (b c : Bool) → may_follow t ((if b then bit word.Comma ∷ [] else if c then blank ∷ bit word.Bar ∷ blank ∷ [] else blank ∷ bit (word.Between f) ∷ blank ∷ []) ++ bs) ≡ true
       by true c = refl

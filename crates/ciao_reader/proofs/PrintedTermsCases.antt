@@ -4,7 +4,7 @@ use Rattle.std.specs.Prelude.{◌||◌, ◌==◌, ◌^◌, nat_lt, nat_le, is_so
 use Rattle.std.specs.Fmt.{signed_decimal}
 use Rattle.std.proofs.lemmas.Bool.{ltb-true, le-leb, eqb-true}
 use Rattle.std.proofs.lemmas.List.{append-nil}
-use Rattle.term_core.specs.Names as fixed
+use Rattle.term_core.specs.declared.fixed.TheConstants as fixed
 use Rattle.term_core.specs.Names.{IsPrefix, fixed_names}
 use Rattle.term_core.specs.Printing.{Shown, name_text, after_bar, plain_shown, name_shown, atom_shown}
 use Rattle.term_core.specs.Printing as shown
@@ -32,7 +32,7 @@ module _ (names : List (List ℕ)) (ops : Operators) where
     pub formed : IsFormed ops (length names) d.tree
     pub tail_text : (item : Tree) → tree_text names (d.as_tail item) ≡ 91 ∷ (tree_text names item ++ s.as_tail)
     pub tail_list : (item : Tree) → is_list (d.as_tail item) ≡ true
-    pub tail_meaning : (item : Tree) → term_of (d.as_tail item) ≡ term.Node fixed.cell (term_of item ∷ t ∷ [])
+    pub tail_meaning : (item : Tree) → term_of (d.as_tail item) ≡ term.Node fixed.CELL (term_of item ∷ t ∷ [])
     pub tail_formed : (item : Tree) → IsArgument ops (length names) item → IsFormed ops (length names) (d.as_tail item)
 
   there_text : (s : Shown) (tree : Tree) → s.text ≡ tree_text names tree → s.priority ≡ priority ops tree → shown.at_argument s ≡ tree_text names (at_argument ops tree)
@@ -89,7 +89,7 @@ module _ (names : List (List ℕ)) (ops : Operators) where
             (text_before names (bits item) _ ∙ ap (λ cs. tree_text names item ++ (124 ∷ cs)) (text_before names (bits (at_argument ops tree)) _)
             ∙ ap (λ cs. tree_text names item ++ cs) (ap after_bar (sym (there_text s tree text has_priority)) ∙ sym as_tail));
         tail_list = λ item. refl;
-        tail_meaning = λ item. ap (λ u. term.Node fixed.cell (term_of item ∷ u ∷ [])) (same_meaning (nat_lt 999 (priority ops tree)) tree ∙ meaning);
+        tail_meaning = λ item. ap (λ u. term.Node fixed.CELL (term_of item ∷ u ∷ [])) (same_meaning (nat_lt 999 (priority ops tree)) tree ∙ meaning);
         tail_formed = λ item h. (h, (there_argument tree formed).0, (there_argument tree formed).1);
       }
 
@@ -106,14 +106,14 @@ module _ (names : List (List ℕ)) (ops : Operators) where
 
   -- an atom, by whether it is `[]` or `{}`
   module _ (begin : IsPrefix fixed_names names) (orderly : IsOrderly ops) where
-    never_operator : (a : ℕ) → nat_le a fixed.bar ≡ true → is_some (prefix_of standard a) ≡ false → is_some (infix_of standard a) ≡ false → is_operator ops a ≡ false
+    never_operator : (a : ℕ) → nat_le a fixed.BAR ≡ true → is_some (prefix_of standard a) ≡ false → is_some (infix_of standard a) ≡ false → is_operator ops a ≡ false
     never_operator a r p i = ap (λ o. is_some o || is_some (infix_of ops a)) (orderly.reserved_stay a r).0 ∙ ap (λ b. b || is_some (infix_of ops a)) p ∙ ap is_some (orderly.reserved_stay a r).1 ∙ i
 
-    nil_agrees : Agrees (term.Atom fixed.nil) (atom_shown names ops true fixed.nil) (atom_derived ops fixed.nil)
+    nil_agrees : Agrees (term.Atom fixed.NIL) (atom_shown names ops true fixed.NIL) (atom_derived ops fixed.NIL)
     nil_agrees = record {
-      text = ap (λ ns. name_text ns fixed.nil) (sym begin.1);
+      text = ap (λ ns. name_text ns fixed.NIL) (sym begin.1);
       has_priority = refl;
-      operator = never_operator fixed.nil refl refl refl;
+      operator = never_operator fixed.NIL refl refl refl;
       meaning = refl;
       formed = tt;
       tail_text = λ item. ap (λ cs. 91 ∷ cs) (text_before names (bits item) _);
@@ -122,15 +122,15 @@ module _ (names : List (List ℕ)) (ops : Operators) where
       tail_formed = λ item h. h;
     }
 
-    braces_agrees : Agrees (term.Atom fixed.braces) (atom_shown names ops true fixed.braces) (atom_derived ops fixed.braces)
-    braces_agrees = plain (term.Atom fixed.braces) _ no_braces (ap (λ ns. name_text ns fixed.braces) (sym begin.1)) refl (never_operator fixed.braces refl refl refl) refl tt refl
+    braces_agrees : Agrees (term.Atom fixed.BRACES) (atom_shown names ops true fixed.BRACES) (atom_derived ops fixed.BRACES)
+    braces_agrees = plain (term.Atom fixed.BRACES) _ no_braces (ap (λ ns. name_text ns fixed.BRACES) (sym begin.1)) refl (never_operator fixed.BRACES refl refl refl) refl tt refl
 
     pub atom_agrees : (a : ℕ) → nat_lt a (length names) ≡ true → Agrees (term.Atom a) (atom_shown names ops true a) (atom_derived ops a)
-    atom_agrees a h = by (a == fixed.nil) (a == fixed.braces) refl refl
+    atom_agrees a h = by (a == fixed.NIL) (a == fixed.BRACES) refl refl
       where
-        by : (b c : Bool) → b ≡ (a == fixed.nil) → c ≡ (a == fixed.braces) → Agrees (term.Atom a) (atom_shown names ops true a) (atom_derived ops a)
-        by true c e f = subst (λ n. Agrees (term.Atom n) (atom_shown names ops true n) (atom_derived ops n)) (sym (eqb-true a fixed.nil (sym e))) nil_agrees
-        by false true e f = subst (λ n. Agrees (term.Atom n) (atom_shown names ops true n) (atom_derived ops n)) (sym (eqb-true a fixed.braces (sym f))) braces_agrees
+        by : (b c : Bool) → b ≡ (a == fixed.NIL) → c ≡ (a == fixed.BRACES) → Agrees (term.Atom a) (atom_shown names ops true a) (atom_derived ops a)
+        by true c e f = subst (λ n. Agrees (term.Atom n) (atom_shown names ops true n) (atom_derived ops n)) (sym (eqb-true a fixed.NIL (sym e))) nil_agrees
+        by false true e f = subst (λ n. Agrees (term.Atom n) (atom_shown names ops true n) (atom_derived ops n)) (sym (eqb-true a fixed.BRACES (sym f))) braces_agrees
         by false false e f =
             rw (sym e, sym f) (plain (term.Atom a) (record { text = name_shown names ops true a; priority = 0; is_operator = is_operator ops a; as_tail = after_bar (name_shown names ops true a) }) (atom a)
             (sym (append-nil (name_shown names ops true a))) refl refl refl h refl)

@@ -4,7 +4,7 @@ use Rattle.std.specs.Prelude.{◌==◌, nat_lt, nat_le, Option, Some, None, if�
 use Rattle.std.specs.List.{AllByRecursion}
 use Rattle.std.proofs.lemmas.Bool.{and_from, eqb-true, leb-true}
 use Rattle.std.proofs.lemmas.List.{append_assoc}
-use Rattle.term_core.specs.Names as fixed
+use Rattle.term_core.specs.declared.fixed.TheConstants as fixed
 use Rattle.term_core.specs.Printing.{Shown, plain_shown, cell_shown, name_shown, call_shown, one_shown, two_shown, compound_shown, shown_of}
 use Rattle.term_core.specs.Printing as shown
 use Rattle.term_core.specs.Operators.{prefix_of, infix_of, left_limit, right_limit}
@@ -89,11 +89,11 @@ module _ (names : List (List ℕ)) (ops : Operators) where
             operand_formed names ops a (right_limit o),
           ) refl
 
-  braces_agree : (t : Term) → IsShown t → Agrees names ops (term.Node fixed.braces (t ∷ [])) (plain_shown 0 (codes "{" ++ (shows t).text ++ codes "}")) (plain_derived ops (braces (derives t).tree))
+  braces_agree : (t : Term) → IsShown t → Agrees names ops (term.Node fixed.BRACES (t ∷ [])) (plain_shown 0 (codes "{" ++ (shows t).text ++ codes "}")) (plain_derived ops (braces (derives t).tree))
   braces_agree t a =
-      plain names ops (term.Node fixed.braces (t ∷ [])) _ (braces (derives t).tree)
+      plain names ops (term.Node fixed.BRACES (t ∷ [])) _ (braces (derives t).tree)
       (ap (λ cs. 123 ∷ cs) (ap (λ cs. cs ++ codes "}") a.text ∙ sym (text_before names (bits (derives t).tree) (bit word.CloseCurly ∷ []))))
-      refl refl (ap (λ u. term.Node fixed.braces (u ∷ [])) a.meaning) a.formed refl
+      refl refl (ap (λ u. term.Node fixed.BRACES (u ∷ [])) a.meaning) a.formed refl
 
   -- two arguments
 
@@ -125,15 +125,15 @@ module _ (names : List (List ℕ)) (ops : Operators) where
       ) refl
 
   -- a list cell
-  cell_agrees : (t u : Term) → IsShown t → IsShown u → Agrees names ops (term.Node fixed.cell (t ∷ u ∷ [])) (cell_shown (shows t) (shows u)) (cell_derived ops (derives t) (derives u))
+  cell_agrees : (t u : Term) → IsShown t → IsShown u → Agrees names ops (term.Node fixed.CELL (t ∷ u ∷ [])) (cell_shown (shows t) (shows u)) (cell_derived ops (derives t) (derives u))
   cell_agrees t u a b =
       let item = at_argument ops (derives t).tree in
       let whole = (derives u).as_tail item in
       let lists = b.tail_list item in
       let text : 91 ∷ (shown.at_argument (shows t) ++ (shows u).as_tail) ≡ tree_text names whole =
       ap (λ cs. 91 ∷ (cs ++ (shows u).as_tail)) (argument_text names ops a) ∙ sym (b.tail_text item) in
-      let meaning : term_of whole ≡ term.Node fixed.cell (t ∷ u ∷ []) =
-      b.tail_meaning item ∙ ap (λ v. term.Node fixed.cell (v ∷ u ∷ [])) (argument_meaning names ops a) in
+      let meaning : term_of whole ≡ term.Node fixed.CELL (t ∷ u ∷ []) =
+      b.tail_meaning item ∙ ap (λ v. term.Node fixed.CELL (v ∷ u ∷ [])) (argument_meaning names ops a) in
       let formed = b.tail_formed item (argument_formed names ops a) in
       record {
         text = text;
@@ -143,7 +143,7 @@ module _ (names : List (List ℕ)) (ops : Operators) where
         formed = formed;
         tail_text = λ first. text_with_first names first whole lists ∙ ap (λ cs. 91 ∷ (tree_text names first ++ (44 ∷ drop 1 cs))) (sym text);
         tail_list = λ first. list_with_first first whole lists;
-        tail_meaning = λ first. meaning_with_first first whole lists ∙ ap (λ v. term.Node fixed.cell (term_of first ∷ v ∷ [])) meaning;
+        tail_meaning = λ first. meaning_with_first first whole lists ∙ ap (λ v. term.Node fixed.CELL (term_of first ∷ v ∷ [])) meaning;
         tail_formed = λ first h. formed_with_first ops (length names) first whole lists formed h;
       }
 
@@ -151,20 +151,20 @@ module _ (names : List (List ℕ)) (ops : Operators) where
   pub compound_agrees : (f : ℕ) (ts : List Term) → AllByRecursion IsShown ts → nat_lt f (length names) ≡ true → nat_le 1 (length ts) ≡ true → nat_le (length ts) 255 ≡ true
       → Agrees names ops (term.Node f ts) (compound_shown names ops true f (map shows ts)) (compound_derived ops f (map derives ts))
   compound_agrees f [] h known some few = absurd (omega (arith, leb-true 1 0 some))
-  compound_agrees f (t ∷ []) h known some few = by (f == fixed.braces) refl
+  compound_agrees f (t ∷ []) h known some few = by (f == fixed.BRACES) refl
     where
-      by : (b : Bool) → b ≡ (f == fixed.braces) → Agrees names ops (term.Node f (t ∷ []))
+      by : (b : Bool) → b ≡ (f == fixed.BRACES) → Agrees names ops (term.Node f (t ∷ []))
           (if b then plain_shown 0 (codes "{" ++ (shows t).text ++ codes "}") else one_shown names ops true f (prefix_of ops f) (shows t))
           (if b then plain_derived ops (braces (derives t).tree) else one_derived ops f (prefix_of ops f) (derives t))
       by true e = subst (λ g. Agrees names ops (term.Node g (t ∷ [])) (plain_shown 0 (codes "{" ++ (shows t).text ++ codes "}")) (plain_derived ops (braces (derives t).tree)))
-          (sym (eqb-true f fixed.braces (sym e))) (braces_agree t h.0)
+          (sym (eqb-true f fixed.BRACES (sym e))) (braces_agree t h.0)
       by false e = one_agrees f t (prefix_of ops f) refl h.0 known
-  compound_agrees f (t ∷ u ∷ []) h known some few = by (f == fixed.cell) refl
+  compound_agrees f (t ∷ u ∷ []) h known some few = by (f == fixed.CELL) refl
     where
-      by : (b : Bool) → b ≡ (f == fixed.cell) → Agrees names ops (term.Node f (t ∷ u ∷ []))
+      by : (b : Bool) → b ≡ (f == fixed.CELL) → Agrees names ops (term.Node f (t ∷ u ∷ []))
           (if b then cell_shown (shows t) (shows u) else two_shown names ops true f (infix_of ops f) (shows t) (shows u))
           (if b then cell_derived ops (derives t) (derives u) else two_derived ops f (infix_of ops f) (derives t) (derives u))
-      by true e = subst (λ g. Agrees names ops (term.Node g (t ∷ u ∷ [])) (cell_shown (shows t) (shows u)) (cell_derived ops (derives t) (derives u))) (sym (eqb-true f fixed.cell (sym e)))
+      by true e = subst (λ g. Agrees names ops (term.Node g (t ∷ u ∷ [])) (cell_shown (shows t) (shows u)) (cell_derived ops (derives t) (derives u))) (sym (eqb-true f fixed.CELL (sym e)))
           (cell_agrees t u h.0 h.1.0)
       by false e = two_agree f t u (infix_of ops f) refl h.0 h.1.0 known
   compound_agrees f (t ∷ u ∷ v ∷ ts) h known some few = call_agrees f t (u ∷ v ∷ ts) h known few

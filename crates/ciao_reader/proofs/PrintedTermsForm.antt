@@ -3,7 +3,7 @@ use Rattle.std.proofs.Common.{◌≡◌, ◌≤◌, ℕ, List, [], ◌∷◌, �
 use Rattle.std.specs.Prelude.{⊤, ◌&&◌, ◌||◌, ◌==◌, ◌^◌, not, nat_lt, nat_le, Option, Some, None, if◌then◌else◌}
 use Rattle.std.proofs.lemmas.Bool.{and_from, and_parts, or_left, or_right, ltb-true, le-leb, ne_eqb, not_from_false}
 use Rattle.std.proofs.lemmas.List.{append_assoc, append-nil}
-use Rattle.term_core.specs.Names as fixed
+use Rattle.term_core.specs.declared.fixed.TheConstants as fixed
 use Rattle.term_core.specs.declared.operators.Op.{Op}
 use Rattle.term_core.specs.declared.operators.Operators.{Operators}
 use Rattle.term_core.specs.Operators.{prefix_of, infix_of}
@@ -96,7 +96,7 @@ within_both count (blank ∷ xs) ys e f = within_both count xs ys e f
 within_both count (bit w ∷ xs) ys e f = and_from _ _ (and_parts _ _ e).0 (within_both count xs ys (and_parts _ _ e).1 f)
 
 infix_within_bits : (count f : ℕ) (bs : List Bit) → nat_lt f count ≡ true → are_within count bs ≡ true → are_within count (infix_bits f ++ bs) ≡ true
-infix_within_bits count f bs l e = by (f == fixed.comma) (f == fixed.bar)
+infix_within_bits count f bs l e = by (f == fixed.COMMA) (f == fixed.BAR)
   where
     by : (b c : Bool) → are_within count ((if b then bit word.Comma ∷ [] else if c then blank ∷ bit word.Bar ∷ blank ∷ [] else blank ∷ bit (word.Between f) ∷ blank ∷ []) ++ bs) ≡ true
     by true c = e
@@ -131,7 +131,7 @@ small_number : (n : ℕ) (signed rest : Bool) → nat_lt n (2 ^ 63) ≡ true →
 small_number n signed rest l e = and_from _ _ (or_left _ _ (not_from_false _ (ne_eqb n (2 ^ 63) (λ same. omega (arith, ltb-true _ _ l, same))))) e
 
 infix_none_large : (f : ℕ) (ws : List Word) → has_none_large false ws ≡ true → has_none_large false (infix_word f ∷ ws) ≡ true
-infix_none_large f ws e = by (f == fixed.comma) (f == fixed.bar)
+infix_none_large f ws e = by (f == fixed.COMMA) (f == fixed.BAR)
   where
     by : (b c : Bool) → has_none_large false ((if b then word.Comma else if c then word.Bar else word.Between f) ∷ ws) ≡ true
     by true c = e

@@ -5,7 +5,7 @@ use Rattle.std.specs.List.{AllByRecursion}
 use Rattle.std.proofs.lemmas.Bool.{ltb-false, le-leb, false≢true}
 use Rattle.std.proofs.lemmas.List.{append_assoc, append-nil}
 use Rattle.std.proofs.lemmas.List.Concat.{flat_map-append}
-use Rattle.term_core.specs.Names as fixed
+use Rattle.term_core.specs.declared.fixed.TheConstants as fixed
 use Rattle.term_core.specs.Printing.{with_commas, infix_name}
 use Rattle.term_core.specs.Printing as shown
 use Rattle.term_core.specs.declared.operators.Operators.{Operators}
@@ -80,7 +80,7 @@ list_with_first first (items ts) e = refl
 list_with_first first (items_and_tail ts t) e = refl
 list_with_first first other e = e
 
-pub meaning_with_first : (first whole : Tree) → is_list whole ≡ true → term_of (with_first first whole) ≡ term.Node fixed.cell (term_of first ∷ term_of whole ∷ [])
+pub meaning_with_first : (first whole : Tree) → is_list whole ≡ true → term_of (with_first first whole) ≡ term.Node fixed.CELL (term_of first ∷ term_of whole ∷ [])
 meaning_with_first first (items ts) e = refl
 meaning_with_first first (items_and_tail ts t) e = refl
 meaning_with_first first other e = absurd (false≢true e)
@@ -126,7 +126,7 @@ module _ (names : List (List ℕ)) where
   text_with_first first other e = absurd (false≢true e)
 
   pub infix_text : (ops : Operators) (f : ℕ) → infix_name names ops true f ≡ bytes_of names (infix_bits f)
-  infix_text ops f = by (f == fixed.comma) (f == fixed.bar)
+  infix_text ops f = by (f == fixed.COMMA) (f == fixed.BAR)
     where
       by : (b c : Bool) → (if b then codes "," else if c then codes " | " else codes " " ++ shown.name_shown names ops true f ++ codes " ")
           ≡ bytes_of names (if b then bit word.Comma ∷ [] else if c then blank ∷ bit word.Bar ∷ blank ∷ [] else blank ∷ bit (word.Between f) ∷ blank ∷ [])

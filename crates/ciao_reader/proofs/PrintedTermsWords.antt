@@ -1,7 +1,7 @@
 -- The words of what is printed are those of its derivation.
 use Rattle.std.proofs.Common.{◌≡◌, ℕ, List, [], ◌∷◌, ◌++◌, refl, ap, ◌∙◌, Bool, true, false}
 use Rattle.std.specs.Prelude.{◌==◌, if◌then◌else◌}
-use Rattle.term_core.specs.Names as fixed
+use Rattle.term_core.specs.declared.fixed.TheConstants as fixed
 use Rattle.ciao_reader.specs.declared.words.Word.{Word}
 use Rattle.ciao_reader.specs.declared.words.Word.TheVariants as word
 use Rattle.ciao_reader.specs.Derivations.{Tree, Trees, call, parens, braces, items, items_and_tail, before, between, one, more, words, words_of_all, infix_word}
@@ -13,7 +13,7 @@ words_in_both (blank ∷ xs) ys = words_in_both xs ys
 words_in_both (bit w ∷ xs) ys = ap (λ ws. w ∷ ws) (words_in_both xs ys)
 
 infix_words : (f : ℕ) (bs : List Bit) → words_in (infix_bits f ++ bs) ≡ infix_word f ∷ words_in bs
-infix_words f bs = by (f == fixed.comma) (f == fixed.bar)
+infix_words f bs = by (f == fixed.COMMA) (f == fixed.BAR)
   where
     by : (b c : Bool) → words_in ((if b then bit word.Comma ∷ [] else if c then blank ∷ bit word.Bar ∷ blank ∷ [] else blank ∷ bit (word.Between f) ∷ blank ∷ []) ++ bs)
         ≡ (if b then word.Comma else if c then word.Bar else word.Between f) ∷ words_in bs

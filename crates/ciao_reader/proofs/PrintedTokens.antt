@@ -3,7 +3,7 @@ use Rattle.std.proofs.Common.{◌≡◌, ℕ, Bool, true, false, not, List, [], 
 use Rattle.std.specs.Prelude.{◌&&◌, ◌||◌, ◌==◌, nat_lt, is_some, Option, Some, None, if◌then◌else◌}
 use Rattle.std.specs.List.{list_any}
 use Rattle.std.proofs.lemmas.Bool.{and_parts, or_from, ltb-true}
-use Rattle.term_core.specs.Names as fixed
+use Rattle.term_core.specs.declared.fixed.TheConstants as fixed
 use Rattle.term_core.specs.Names.{place_of, IsPrefix}
 use Rattle.term_core.specs.Printing.{name_text}
 use Rattle.term_core.specs.Operators.{prefix_of, infix_of, right_limit}
@@ -50,9 +50,9 @@ module _ (ops : Operators) where
 
   breaks_same : (limit : ℕ) (k : TokenKind) (ts : List Token) → breaks_at ops limit k (without_places ts) ≡ breaks_at ops limit k ts
   breaks_same limit (kind.Name name) ts =
-      ap (λ b. b && not (name == fixed.minus && number_next (without_places ts))) (goes_same limit name ts)
-      ∙ ap (λ b. goes_on ops limit name ts && not (name == fixed.minus && b)) (number_same ts)
-  breaks_same limit (kind.Quoted name) ts = ap (λ b. b && not (name == fixed.comma || name == fixed.bar)) (goes_same limit name ts)
+      ap (λ b. b && not (name == fixed.MINUS && number_next (without_places ts))) (goes_same limit name ts)
+      ∙ ap (λ b. goes_on ops limit name ts && not (name == fixed.MINUS && b)) (number_same ts)
+  breaks_same limit (kind.Quoted name) ts = ap (λ b. b && not (name == fixed.COMMA || name == fixed.BAR)) (goes_same limit name ts)
   breaks_same limit other ts = refl
 
   stands_same : (limit : ℕ) (ts : List Token) → stands_alone ops limit (without_places ts) ≡ stands_alone ops limit ts
@@ -75,7 +75,7 @@ module _ (ops : Operators) where
       ∙ ap (role_by due name is_minus (calls_next ts) (number_next ts)) (operand_same name (prefix_of ops name) ts)
 
   role_same : (names : List (List ℕ)) (due : Bool) (seen : List ℕ) (k : TokenKind) (ts : List Token) → role names ops due seen k (without_places ts) ≡ role names ops due seen k ts
-  role_same names due seen (kind.Name name) ts = name_role_same due name (name == fixed.minus) ts
+  role_same names due seen (kind.Name name) ts = name_role_same due name (name == fixed.MINUS) ts
   role_same names due seen (kind.Quoted name) ts = name_role_same due name false ts
   role_same names due seen other ts = refl
 

@@ -1,7 +1,7 @@
 -- The derivation of what is printed of a term.
 use Rattle.std.proofs.Common.{ℕ, Bool, true, false, List, [], ◌∷◌, suc}
 use Rattle.std.specs.Prelude.{◌||◌, ◌&&◌, ◌==◌, nat_lt, is_some, if◌then◌else◌, ℤ, pos, negsuc, Option, Some, None}
-use Rattle.term_core.specs.Names as fixed
+use Rattle.term_core.specs.declared.fixed.TheConstants as fixed
 use Rattle.term_core.specs.Operators.{prefix_of, infix_of, left_limit, right_limit}
 use Rattle.term_core.specs.declared.operators.Op.{Op}
 use Rattle.term_core.specs.declared.operators.Operators.{Operators}
@@ -55,8 +55,8 @@ module _ (ops : Operators) where
 
   abbrev pub atom_derived : ℕ → Derived
   atom_derived a =
-      if a == fixed.nil then record { tree = no_items; as_tail = λ item. items (one item) }
-      else if a == fixed.braces then plain_derived no_braces
+      if a == fixed.NIL then record { tree = no_items; as_tail = λ item. items (one item) }
+      else if a == fixed.BRACES then plain_derived no_braces
       else plain_derived (atom a)
 
   abbrev pub argument_trees : List Derived → List Tree
@@ -80,8 +80,8 @@ module _ (ops : Operators) where
   two_derived f (Some o) left right = plain_derived (between f (at_operand (left_limit o) left.tree) (at_operand (right_limit o) right.tree))
 
   abbrev pub compound_derived : ℕ → List Derived → Derived
-  compound_derived f (part ∷ []) = if f == fixed.braces then plain_derived (braces part.tree) else one_derived f (prefix_of ops f) part
-  compound_derived f (left ∷ right ∷ []) = if f == fixed.cell then cell_derived left right else two_derived f (infix_of ops f) left right
+  compound_derived f (part ∷ []) = if f == fixed.BRACES then plain_derived (braces part.tree) else one_derived f (prefix_of ops f) part
+  compound_derived f (left ∷ right ∷ []) = if f == fixed.CELL then cell_derived left right else two_derived f (infix_of ops f) left right
   compound_derived f parts = call_derived f parts
 
   abbrev pub integer_tree : ℤ → Tree

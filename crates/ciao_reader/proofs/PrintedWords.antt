@@ -1,7 +1,7 @@
 -- The words of what is printed, with the blanks between them, their bytes and their pieces.
 use Rattle.std.proofs.Common.{ℕ, Bool, true, false, List, [], ◌∷◌, ◌++◌, length, map}
 use Rattle.std.specs.Prelude.{◌==◌, ◌&&◌, ◌||◌, not, nat_lt, nat_le, ◌^◌, if◌then◌else◌, flat_map, codes, decimal}
-use Rattle.term_core.specs.Names as fixed
+use Rattle.term_core.specs.declared.fixed.TheConstants as fixed
 use Rattle.term_core.specs.Characters.{is_name}
 use Rattle.term_core.specs.Printing.{name_text, quoted_where_needed}
 use Rattle.ciao_tokens.specs.Forms.{Shape, name, quoted, variable, number, text, mark, stop, paren, close_paren, bracket, close_bracket, curly, close_curly, comma, bar}
@@ -22,7 +22,7 @@ pub data Bit : Type 0 where
   bit : Word → Bit
 
 abbrev pub infix_bits : ℕ → List Bit
-infix_bits f = if f == fixed.comma then bit word.Comma ∷ [] else if f == fixed.bar then blank ∷ bit word.Bar ∷ blank ∷ [] else blank ∷ bit (word.Between f) ∷ blank ∷ []
+infix_bits f = if f == fixed.COMMA then bit word.Comma ∷ [] else if f == fixed.BAR then blank ∷ bit word.Bar ∷ blank ∷ [] else blank ∷ bit (word.Between f) ∷ blank ∷ []
 
 abbrev mutual
   -- the words of a derivation with the blanks that are printed between them
@@ -186,7 +186,7 @@ module _ (spelling : ℕ → ℕ) (is_bare : ℕ → Bool) where
   kind_of behind_name (word.Text cs) = kind.Text cs
   kind_of behind_name (word.Atom a) = name_kind a
   kind_of behind_name (word.Call f) = name_kind f
-  kind_of behind_name word.Sign = kind.Name fixed.minus
+  kind_of behind_name word.Sign = kind.Name fixed.MINUS
   kind_of behind_name (word.Before f) = name_kind f
   kind_of behind_name (word.Between f) = name_kind f
   kind_of behind_name word.Paren = if behind_name then kind.OpenCall else kind.Open

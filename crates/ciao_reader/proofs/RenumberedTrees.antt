@@ -2,7 +2,7 @@
 use Rattle.std.proofs.Common.{◌≡◌, ℕ, Bool, true, false, List, [], ◌∷◌, ◌++◌, map, refl, sym, ap, ap₂, ◌∙◌}
 use Rattle.std.specs.Prelude.{not, ◌&&◌, ◌||◌, ◌+◌, ◌==◌, nat_le, pos, if◌then◌else◌}
 use Rattle.std.proofs.lemmas.List.{map-append}
-use Rattle.term_core.specs.Names as fixed
+use Rattle.term_core.specs.declared.fixed.TheConstants as fixed
 use Rattle.term_core.specs.Operators.{prefix_of, infix_of}
 use Rattle.term_core.specs.Terms.{instance, instance_step}
 use Rattle.term_core.specs.declared.terms.Term.{Term}
@@ -49,7 +49,7 @@ module _ (new : ℕ → ℕ) where
   then_words ws us vs e rest d = ap (λ xs. xs ++ vs) e ∙ ap (λ xs. renumbered_words ws ++ xs) d ∙ sym (map-append renumbered_word ws rest)
 
   infix_same : (f : ℕ) → infix_word f ≡ renumbered_word (infix_word f)
-  infix_same f = by (f == fixed.comma) (f == fixed.bar)
+  infix_same f = by (f == fixed.COMMA) (f == fixed.BAR)
     where
       by : (b c : Bool) → (if b then word.Comma else if c then word.Bar else word.Between f) ≡ renumbered_word (if b then word.Comma else if c then word.Bar else word.Between f)
       by true c = refl
@@ -138,14 +138,14 @@ module _ (new : ℕ → ℕ) where
 
   at_list : (ts : List Term) (tail : Term) → with_variables (list_term ts tail) ≡ list_term (map with_variables ts) (with_variables tail)
   at_list [] tail = refl
-  at_list (t ∷ ts) tail = at_node fixed.cell (t ∷ list_term ts tail ∷ []) ∙ ap (λ u. term.Node fixed.cell (with_variables t ∷ u ∷ [])) (at_list ts tail)
+  at_list (t ∷ ts) tail = at_node fixed.CELL (t ∷ list_term ts tail ∷ []) ∙ ap (λ u. term.Node fixed.CELL (with_variables t ∷ u ∷ [])) (at_list ts tail)
 
   at_codes : (cs : List ℕ) → with_variables (codes_term cs) ≡ codes_term cs
-  at_codes [] = at_atom fixed.nil
+  at_codes [] = at_atom fixed.NIL
   at_codes (c ∷ cs) =
-      at_node fixed.cell (term.Int (pos c) ∷ codes_term cs ∷ [])
-      ∙ ap (λ t. term.Node fixed.cell (t ∷ with_variables (codes_term cs) ∷ [])) (fold-Int Term (instance_step (λ v. term.Var (new v))) (pos c))
-      ∙ ap (λ t. term.Node fixed.cell (term.Int (pos c) ∷ t ∷ [])) (at_codes cs)
+      at_node fixed.CELL (term.Int (pos c) ∷ codes_term cs ∷ [])
+      ∙ ap (λ t. term.Node fixed.CELL (t ∷ with_variables (codes_term cs) ∷ [])) (fold-Int Term (instance_step (λ v. term.Var (new v))) (pos c))
+      ∙ ap (λ t. term.Node fixed.CELL (term.Int (pos c) ∷ t ∷ [])) (at_codes cs)
 
   mutual
     pub term_renumbered : (t : Tree) → term_of (renumbered t) ≡ with_variables (term_of t)
@@ -154,13 +154,13 @@ module _ (new : ℕ → ℕ) where
     term_renumbered (variable v) = sym (fold-Var Term (instance_step (λ w. term.Var (new w))) v)
     term_renumbered (text cs) = sym (at_codes cs)
     term_renumbered (atom a) = sym (at_atom a)
-    term_renumbered no_items = sym (at_atom fixed.nil)
-    term_renumbered no_braces = sym (at_atom fixed.braces)
+    term_renumbered no_items = sym (at_atom fixed.NIL)
+    term_renumbered no_braces = sym (at_atom fixed.BRACES)
     term_renumbered (call f ts) = ap (term.Node f) (terms_renumbered ts) ∙ sym (at_node f (terms_of ts))
     term_renumbered (parens t) = term_renumbered t
-    term_renumbered (braces t) = ap (λ u. term.Node fixed.braces (u ∷ [])) (term_renumbered t) ∙ sym (at_node fixed.braces (term_of t ∷ []))
+    term_renumbered (braces t) = ap (λ u. term.Node fixed.BRACES (u ∷ [])) (term_renumbered t) ∙ sym (at_node fixed.BRACES (term_of t ∷ []))
     term_renumbered (items ts) =
-        ap (λ us. list_term us (term.Atom fixed.nil)) (terms_renumbered ts) ∙ ap (list_term (map with_variables (terms_of ts))) (sym (at_atom fixed.nil)) ∙ sym (at_list (terms_of ts) (term.Atom fixed.nil))
+        ap (λ us. list_term us (term.Atom fixed.NIL)) (terms_renumbered ts) ∙ ap (list_term (map with_variables (terms_of ts))) (sym (at_atom fixed.NIL)) ∙ sym (at_list (terms_of ts) (term.Atom fixed.NIL))
     term_renumbered (items_and_tail ts t) =
         ap (λ us. list_term us (term_of (renumbered t))) (terms_renumbered ts) ∙ ap (list_term (map with_variables (terms_of ts))) (term_renumbered t) ∙ sym (at_list (terms_of ts) (term_of t))
     term_renumbered (before f t) = ap (λ u. term.Node f (u ∷ [])) (term_renumbered t) ∙ sym (at_node f (term_of t ∷ []))

@@ -2,7 +2,8 @@
 use Rattle.std.proofs.Common.{◌≡◌, ℕ, List, [], ◌∷◌, ◌++◌, refl, true, false}
 use Rattle.std.specs.Prelude.{codes, ◌^◌, Some, None}
 use Rattle.std.proofs.lemmas.Bool.{leb-true}
-use Rattle.term_core.specs.Names.{fixed_names, minus, neck, comma, bar}
+use Rattle.term_core.specs.Names.{fixed_names}
+use Rattle.term_core.specs.declared.fixed.TheConstants.{MINUS, NECK, COMMA, BAR}
 use Rattle.term_core.specs.Standard.{standard, start}
 use Rattle.term_core.proofs.OperatorTables.{made_one_root}
 use Rattle.ciao_tokens.specs.declared.kinds.Token.{Token}
@@ -83,31 +84,31 @@ HasNone ts = (t : Tree) → Has ts t → ⊥
 -- infix operators
 
 -- a - b - c
-left_first : Has (a' ∷ name minus ∷ b' ∷ name minus ∷ c' ∷ []) (between minus (between minus a b) c)
+left_first : Has (a' ∷ name MINUS ∷ b' ∷ name MINUS ∷ c' ∷ []) (between MINUS (between MINUS a b) c)
 left_first = record { spans = refl; allowed = refl; within = leb-true _ _ refl }
 
 -- a - (b - c)
-right_first : Has (a' ∷ name minus ∷ far Open ∷ b' ∷ name minus ∷ c' ∷ near Close ∷ []) (between minus a (parens (between minus b c)))
+right_first : Has (a' ∷ name MINUS ∷ far Open ∷ b' ∷ name MINUS ∷ c' ∷ near Close ∷ []) (between MINUS a (parens (between MINUS b c)))
 right_first = record { spans = refl; allowed = refl; within = leb-true _ _ refl }
 
 -- a -(b)
-infix_before_paren : Has (a' ∷ name minus ∷ near OpenCall ∷ b' ∷ near Close ∷ []) (between minus a (parens b))
+infix_before_paren : Has (a' ∷ name MINUS ∷ near OpenCall ∷ b' ∷ near Close ∷ []) (between MINUS a (parens b))
 infix_before_paren = record { spans = refl; allowed = refl; within = leb-true _ _ refl }
 
 -- a -1
-subtraction : Has (a' ∷ name minus ∷ near (Number 1) ∷ []) (between minus a (number 1))
+subtraction : Has (a' ∷ name MINUS ∷ near (Number 1) ∷ []) (between MINUS a (number 1))
 subtraction = record { spans = refl; allowed = refl; within = leb-true _ _ refl }
 
 -- X =(a,b)
-pair : Has (far (Variable x) ∷ name equals ∷ near OpenCall ∷ a' ∷ near Comma ∷ b' ∷ near Close ∷ []) (between equals (variable 0) (parens (between comma a b)))
+pair : Has (far (Variable x) ∷ name equals ∷ near OpenCall ∷ a' ∷ near Comma ∷ b' ∷ near Close ∷ []) (between equals (variable 0) (parens (between COMMA a b)))
 pair = record { spans = refl; allowed = refl; within = leb-true _ _ refl }
 
 -- a :- (a ; b -> c)
-body : Has (a' ∷ name neck ∷ far Open ∷ a' ∷ name semicolon ∷ b' ∷ name arrow ∷ c' ∷ near Close ∷ []) (between neck a (parens (between semicolon a (between arrow b c))))
+body : Has (a' ∷ name NECK ∷ far Open ∷ a' ∷ name semicolon ∷ b' ∷ name arrow ∷ c' ∷ near Close ∷ []) (between NECK a (parens (between semicolon a (between arrow b c))))
 body = record { spans = refl; allowed = refl; within = leb-true _ _ refl }
 
 -- a | b
-bar_between : Has (a' ∷ far Bar ∷ b' ∷ []) (between bar a b)
+bar_between : Has (a' ∷ far Bar ∷ b' ∷ []) (between BAR a b)
 bar_between = record { spans = refl; allowed = refl; within = leb-true _ _ refl }
 
 -- a = b = c
@@ -119,41 +120,41 @@ no_colons : HasNone (a' ∷ name colon ∷ b' ∷ name colon ∷ c' ∷ [])
 no_colons = no_tree standard (made_one_root standard (start refl)) _ 8 refl
 
 -- a '|' b
-no_quoted_bar : HasNone (a' ∷ far (Quoted bar) ∷ b' ∷ [])
+no_quoted_bar : HasNone (a' ∷ far (Quoted BAR) ∷ b' ∷ [])
 no_quoted_bar = no_tree standard (made_one_root standard (start refl)) _ 3 refl
 
 -- a -
-no_right_side : HasNone (a' ∷ name minus ∷ [])
+no_right_side : HasNone (a' ∷ name MINUS ∷ [])
 no_right_side = no_tree standard (made_one_root standard (start refl)) _ 4 refl
 
 -- prefix operators
 
 -- - 1
-minus_one : Has (name minus ∷ far (Number 1) ∷ []) (before minus (number 1))
+minus_one : Has (name MINUS ∷ far (Number 1) ∷ []) (before MINUS (number 1))
 minus_one = record { spans = refl; allowed = refl; within = leb-true _ _ refl }
 
 -- -1
-negative_one : Has (name minus ∷ near (Number 1) ∷ []) (negative 1)
+negative_one : Has (name MINUS ∷ near (Number 1) ∷ []) (negative 1)
 negative_one = record { spans = refl; allowed = refl; within = leb-true _ _ refl }
 
 -- '-'1
-quoted_minus : Has (far (Quoted minus) ∷ near (Number 1) ∷ []) (before minus (number 1))
+quoted_minus : Has (far (Quoted MINUS) ∷ near (Number 1) ∷ []) (before MINUS (number 1))
 quoted_minus = record { spans = refl; allowed = refl; within = leb-true _ _ refl }
 
 -- - - 1
-two_minuses : Has (name minus ∷ name minus ∷ far (Number 1) ∷ []) (before minus (before minus (number 1)))
+two_minuses : Has (name MINUS ∷ name MINUS ∷ far (Number 1) ∷ []) (before MINUS (before MINUS (number 1)))
 two_minuses = record { spans = refl; allowed = refl; within = leb-true _ _ refl }
 
 -- - -1
-minus_negative : Has (name minus ∷ name minus ∷ near (Number 1) ∷ []) (before minus (negative 1))
+minus_negative : Has (name MINUS ∷ name MINUS ∷ near (Number 1) ∷ []) (before MINUS (negative 1))
 minus_negative = record { spans = refl; allowed = refl; within = leb-true _ _ refl }
 
 -- - (1)
-minus_paren : Has (name minus ∷ far Open ∷ far (Number 1) ∷ near Close ∷ []) (before minus (parens (number 1)))
+minus_paren : Has (name MINUS ∷ far Open ∷ far (Number 1) ∷ near Close ∷ []) (before MINUS (parens (number 1)))
 minus_paren = record { spans = refl; allowed = refl; within = leb-true _ _ refl }
 
 -- -(1)
-minus_call : Has (name minus ∷ near OpenCall ∷ far (Number 1) ∷ near Close ∷ []) (call minus (one (number 1)))
+minus_call : Has (name MINUS ∷ near OpenCall ∷ far (Number 1) ∷ near Close ∷ []) (call MINUS (one (number 1)))
 minus_call = record { spans = refl; allowed = refl; within = leb-true _ _ refl }
 
 -- \+ a = b
@@ -165,17 +166,17 @@ negated_paren : Has (name not_provable ∷ far Open ∷ a' ∷ near Close ∷ []
 negated_paren = record { spans = refl; allowed = refl; within = leb-true _ _ refl }
 
 -- a(:- a)
-no_directive_inside : HasNone (a' ∷ near OpenCall ∷ name neck ∷ a' ∷ near Close ∷ [])
+no_directive_inside : HasNone (a' ∷ near OpenCall ∷ name NECK ∷ a' ∷ near Close ∷ [])
 no_directive_inside = no_tree standard (made_one_root standard (start refl)) _ 2 refl
 
 -- prefix operators as atoms
 
 -- entry :- a
-entry_rule : Has (name entry ∷ name neck ∷ a' ∷ []) (between neck (atom entry) a)
+entry_rule : Has (name entry ∷ name NECK ∷ a' ∷ []) (between NECK (atom entry) a)
 entry_rule = record { spans = refl; allowed = refl; within = leb-true _ _ refl }
 
 -- - = a
-minus_is : Has (name minus ∷ name equals ∷ a' ∷ []) (between equals (atom minus) a)
+minus_is : Has (name MINUS ∷ name equals ∷ a' ∷ []) (between equals (atom MINUS) a)
 minus_is = record { spans = refl; allowed = refl; within = leb-true _ _ refl }
 
 -- true -> a
@@ -183,11 +184,11 @@ true_then : Has (name truth ∷ name arrow ∷ a' ∷ []) (between arrow (atom t
 true_then = record { spans = refl; allowed = refl; within = leb-true _ _ refl }
 
 -- [-]
-minus_item : Has (far OpenList ∷ name minus ∷ near CloseList ∷ []) (items (one (atom minus)))
+minus_item : Has (far OpenList ∷ name MINUS ∷ near CloseList ∷ []) (items (one (atom MINUS)))
 minus_item = record { spans = refl; allowed = refl; within = leb-true _ _ refl }
 
 -- a(-, b)
-minus_argument : Has (a' ∷ near OpenCall ∷ name minus ∷ near Comma ∷ b' ∷ near Close ∷ []) (call 75 (more (atom minus) (one b)))
+minus_argument : Has (a' ∷ near OpenCall ∷ name MINUS ∷ near Comma ∷ b' ∷ near Close ∷ []) (call 75 (more (atom MINUS) (one b)))
 minus_argument = record { spans = refl; allowed = refl; within = leb-true _ _ refl }
 
 -- primaries
@@ -223,8 +224,8 @@ no_nothing = no_tree standard (made_one_root standard (start refl)) _ 1 refl
 -- numbers beyond the integers
 
 -- -9223372036854775808 and - 9223372036854775808
-least_integer : beyond names standard (name minus ∷ near (Number (2 ^ 63)) ∷ []) ≡ None
+least_integer : beyond names standard (name MINUS ∷ near (Number (2 ^ 63)) ∷ []) ≡ None
 least_integer = refl
 
-beyond_integers : beyond names standard (name minus ∷ far (Number (2 ^ 63)) ∷ []) ≡ Some 1
+beyond_integers : beyond names standard (name MINUS ∷ far (Number (2 ^ 63)) ∷ []) ≡ Some 1
 beyond_integers = refl

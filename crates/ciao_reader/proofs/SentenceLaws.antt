@@ -2,7 +2,7 @@
 use Rattle.std.proofs.Common.{arith, ◌≡◌, ◌<◌, ◌≤◌, ℕ, ◌+◌, List, refl, ap, sym, Bool, true, false}
 use Rattle.std.specs.Prelude.{nat_le, if◌then◌else◌, Some, None}
 use Rattle.std.proofs.lemmas.Bool.{leb-true, leb-false}
-use Rattle.term_core.specs.Names as fixed
+use Rattle.term_core.specs.declared.fixed.TheConstants as fixed
 use Rattle.term_core.specs.declared.terms.Term as term
 use Rattle.term_core.specs.declared.operators.Operators.{Operators}
 use Rattle.ciao_tokens.specs.declared.kinds.Token.{Token}
@@ -19,14 +19,14 @@ use Rattle.ciao_reader.specs.Parts.{part_of, IsPartOf}
 shallow_tree : (t : Tree) (p : Part) → p ≡ part_of t → p.depth ≤ depth_limit → (depth t ≤ depth_limit) × (term_of t ≡ p.term)
 shallow_tree t p e l = by (nat_le (depth t) depth_limit) refl e
   where
-    by : (b : Bool) → b ≡ nat_le (depth t) depth_limit → p ≡ (if b then record { term = term_of t; depth = depth t } else record { term = term.Atom fixed.nil; depth = depth_limit + 1 }) → (depth t ≤ depth_limit) × (term_of t ≡ p.term)
+    by : (b : Bool) → b ≡ nat_le (depth t) depth_limit → p ≡ (if b then record { term = term_of t; depth = depth t } else record { term = term.Atom fixed.NIL; depth = depth_limit + 1 }) → (depth t ≤ depth_limit) × (term_of t ≡ p.term)
     by true d f = (leb-true _ _ (sym d), sym (ap (λ (q : Part). q.term) f))
     by false d f = absurd (omega (arith, l, ap (λ (q : Part). q.depth) f))
 
 deep_tree : (t : Tree) (p : Part) → p ≡ part_of t → depth_limit < p.depth → depth_limit < depth t
 deep_tree t p e l = by (nat_le (depth t) depth_limit) refl e
   where
-    by : (b : Bool) → b ≡ nat_le (depth t) depth_limit → p ≡ (if b then record { term = term_of t; depth = depth t } else record { term = term.Atom fixed.nil; depth = depth_limit + 1 }) → depth_limit < depth t
+    by : (b : Bool) → b ≡ nat_le (depth t) depth_limit → p ≡ (if b then record { term = term_of t; depth = depth t } else record { term = term.Atom fixed.NIL; depth = depth_limit + 1 }) → depth_limit < depth t
     by true d f = absurd (omega (arith, l, leb-true _ _ (sym d), ap (λ (q : Part). q.depth) f))
     by false d f = leb-false (depth t) depth_limit (sym d)
 

@@ -1,7 +1,7 @@
 -- The steps of the code are those of the machine, with what is kept of a derivation in its place.
 use Rattle.std.proofs.Common.{◌≡◌, ℕ, List, [], ◌∷◌, ◌++◌, refl, ap, ◌∙◌, Bool, true, false}
 use Rattle.std.specs.Prelude.{◌&&◌, nat_le, drop, Option, Some, None, if◌then◌else◌}
-use Rattle.term_core.specs.Names as fixed
+use Rattle.term_core.specs.declared.fixed.TheConstants as fixed
 use Rattle.term_core.specs.declared.operators.Op.{Op}
 use Rattle.term_core.specs.declared.operators.Operators.{Operators}
 use Rattle.term_core.specs.declared.terms.Term as term
@@ -90,7 +90,7 @@ module _ (ops : Operators) where
   paren_image t q ws st = refl
 
   curly_image : (t : Tree) (q : ℕ) (ws : List Word) (st : List machine.Frame) → in_curly (part_of t) q ws (frames_of st) ≡ image (machine.reduce_braces ops t q ws st)
-  curly_image t q (word.CloseCurly ∷ ws) st = ap (λ x. have q 0 x ws (frames_of st)) (prefix_kept fixed.braces t)
+  curly_image t q (word.CloseCurly ∷ ws) st = ap (λ x. have q 0 x ws (frames_of st)) (prefix_kept fixed.BRACES t)
   curly_image t q ws st = refl
 
   called_image : (t : Tree) (f : ℕ) (ds : List Tree) (q : ℕ) (ws : List Word) (st : List machine.Frame)
@@ -114,7 +114,7 @@ module _ (ops : Operators) where
   item_image : (t : Tree) (ds : List Tree) (q : ℕ) (ws : List Word) (st : List machine.Frame) → in_list (parts_in (t ∷ ds)) q ws (frames_of st) ≡ image (machine.reduce_items ops t ds q ws st)
   item_image t ds q (word.Bar ∷ ws) st = ap (λ ps. need 999 ws (Tail ps q ∷ frames_of st)) (parts_put ds (one t))
   item_image t ds q (word.CloseList ∷ ws) st =
-      ap (λ ps. have q 0 (list_part ps (leaf (term.Atom fixed.nil))) ws (frames_of st)) (parts_put ds (one t)) ∙ ap (λ x. have q 0 x ws (frames_of st)) (items_kept (put_before ds (one t)))
+      ap (λ ps. have q 0 (list_part ps (leaf (term.Atom fixed.NIL))) ws (frames_of st)) (parts_put ds (one t)) ∙ ap (λ x. have q 0 x ws (frames_of st)) (items_kept (put_before ds (one t)))
   item_image t ds q ws st = refl
 
   tail_image : (t : Tree) (ts : Trees) (q : ℕ) (ws : List Word) (st : List machine.Frame) → in_tail (part_of t) (all_parts ts) q ws (frames_of st) ≡ image (machine.reduce_tail ops t ts q ws st)

@@ -1,6 +1,6 @@
 -- What is kept of a derivation while a sentence is read: its term, as long as it is not too deep.
 use Rattle.std.specs.Prelude.{◌≡◌, ℕ, ◌+◌, nat_le, max, pos, List, [], ◌∷◌, if◌then◌else◌}
-use Rattle.term_core.specs.Names as fixed
+use Rattle.term_core.specs.declared.fixed.TheConstants as fixed
 use Rattle.term_core.specs.declared.terms.Term.{Term}
 use Rattle.term_core.specs.declared.terms.Term as term
 use Rattle.term_core.specs.declared.operators.Operators.{Operators}
@@ -12,7 +12,7 @@ use Rattle.ciao_reader.specs.declared.parts.Part.{Part}
 
 -- a term of this depth, or none where it is too deep
 abbrev pub capped : ℕ → Term → Part
-capped deep t = if nat_le deep depth_limit then record { term = t; depth = deep } else record { term = term.Atom fixed.nil; depth = depth_limit + 1 }
+capped deep t = if nat_le deep depth_limit then record { term = t; depth = deep } else record { term = term.Atom fixed.NIL; depth = depth_limit + 1 }
 
 -- what is kept of the derivation
 abbrev pub part_of : Tree → Part
@@ -37,12 +37,12 @@ paren_part p = capped (p.depth + 1) p.term
 -- a list of these and a tail
 abbrev pub list_part : List Part → Part → Part
 list_part [] tail = tail
-list_part (p ∷ ps) tail = infix_part fixed.cell p (list_part ps tail)
+list_part (p ∷ ps) tail = infix_part fixed.CELL p (list_part ps tail)
 
 -- a list of these integers and a tail
 abbrev pub codes_part : List ℕ → Part → Part
 codes_part [] tail = tail
-codes_part (c ∷ cs) tail = infix_part fixed.cell (leaf (term.Int (pos c))) (codes_part cs tail)
+codes_part (c ∷ cs) tail = infix_part fixed.CELL (leaf (term.Int (pos c))) (codes_part cs tail)
 
 -- what is kept of a derivation of these words
 pub record IsPartOf (ops : Operators) (ws : List Word) (p : Part) : Type 0 where

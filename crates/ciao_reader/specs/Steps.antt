@@ -1,6 +1,6 @@
 -- One step of the reading of a sentence: what comes of the next words, and of what waits for a term, the newest first.
 use Rattle.std.specs.Prelude.{ℕ, ◌&&◌, ◌||◌, ◌==◌, nat_le, max, pos, neg_ℤ, List, [], ◌∷◌, ◌++◌, length, drop, Option, Some, None, if◌then◌else◌}
-use Rattle.term_core.specs.Names as fixed
+use Rattle.term_core.specs.declared.fixed.TheConstants as fixed
 use Rattle.term_core.specs.declared.terms.Term.{Term}
 use Rattle.term_core.specs.declared.terms.Term as term
 use Rattle.term_core.specs.declared.operators.Op.{Op}
@@ -45,18 +45,18 @@ prefix_next None f most ws st = stuck
 prefix_next (Some o) f most ws st = if nat_le o.priority most then need (right_limit o) ws (Before f most ∷ st) else stuck
 
 abbrev pub no_item : List Word → List Frame → Now
-no_item ws (Listed [] most ∷ st) = have most 0 (leaf (term.Atom fixed.nil)) ws st
+no_item ws (Listed [] most ∷ st) = have most 0 (leaf (term.Atom fixed.NIL)) ws st
 no_item ws st = stuck
 
 abbrev pub no_brace : List Word → List Frame → Now
-no_brace ws (Curly most ∷ st) = have most 0 (leaf (term.Atom fixed.braces)) ws st
+no_brace ws (Curly most ∷ st) = have most 0 (leaf (term.Atom fixed.BRACES)) ws st
 no_brace ws st = stuck
 
 module _ (ops : Operators) where
   abbrev pub after_need : ℕ → List Word → List Frame → Now
   after_need most (word.Number n ∷ ws) st = have most 0 (leaf (term.Int (as_integer (pos n)))) ws st
   after_need most (word.Variable v ∷ ws) st = have most 0 (leaf (term.Var v)) ws st
-  after_need most (word.Text cs ∷ ws) st = have most 0 (codes_part cs (leaf (term.Atom fixed.nil))) ws st
+  after_need most (word.Text cs ∷ ws) st = have most 0 (codes_part cs (leaf (term.Atom fixed.NIL))) ws st
   after_need most (word.Atom a ∷ ws) st = have most 0 (leaf (term.Atom a)) ws st
   after_need most (word.Sign ∷ ws) st = number_next most ws st
   after_need most (word.Call f ∷ ws) st = call_next f most ws st
@@ -79,7 +79,7 @@ in_paren p most (word.CloseParen ∷ ws) st = have most 0 (paren_part p) ws st
 in_paren p most ws st = stuck
 
 abbrev pub in_curly : Part → ℕ → List Word → List Frame → Now
-in_curly p most (word.CloseCurly ∷ ws) st = have most 0 (prefix_part fixed.braces p) ws st
+in_curly p most (word.CloseCurly ∷ ws) st = have most 0 (prefix_part fixed.BRACES p) ws st
 in_curly p most ws st = stuck
 
 -- these arguments, the deepest of this depth
@@ -94,7 +94,7 @@ in_call f ts deepest most ws st = stuck
 abbrev pub in_list : List Part → ℕ → List Word → List Frame → Now
 in_list ps most (word.Comma ∷ ws) st = need 999 ws (Listed ps most ∷ st)
 in_list ps most (word.Bar ∷ ws) st = need 999 ws (Tail ps most ∷ st)
-in_list ps most (word.CloseList ∷ ws) st = have most 0 (list_part ps (leaf (term.Atom fixed.nil))) ws st
+in_list ps most (word.CloseList ∷ ws) st = have most 0 (list_part ps (leaf (term.Atom fixed.NIL))) ws st
 in_list ps most ws st = stuck
 
 abbrev pub in_tail : Part → List Part → ℕ → List Word → List Frame → Now
@@ -119,9 +119,9 @@ module _ (ops : Operators) where
 
   -- the infix operator that comes next
   abbrev pub operator_of : Word → Option (ℕ × Op)
-  operator_of (word.Between f) = if f == fixed.comma || f == fixed.bar then None else named f (infix_of ops f)
-  operator_of word.Comma = named fixed.comma (infix_of ops fixed.comma)
-  operator_of word.Bar = named fixed.bar (infix_of ops fixed.bar)
+  operator_of (word.Between f) = if f == fixed.COMMA || f == fixed.BAR then None else named f (infix_of ops f)
+  operator_of word.Comma = named fixed.COMMA (infix_of ops fixed.COMMA)
+  operator_of word.Bar = named fixed.BAR (infix_of ops fixed.BAR)
   operator_of other = None
 
   abbrev pub operator_next : List Word → Option (ℕ × Op)

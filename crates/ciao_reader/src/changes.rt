@@ -1,6 +1,6 @@
 // What a sentence makes of the operators.
 ghost use Rattle.std.specs.Prelude.{◌≡◌, ◌∷◌, [], false, codes, Some, None, IfOk, OnOk, OnErr, IsErrOf, MatchOption};
-ghost use Rattle.term_core.specs.Names.{nil, cell};
+ghost use Rattle.term_core.specs.declared.fixed.TheConstants.{NIL, CELL};
 ghost use Rattle.term_core.specs.declared.terms.Term.{out-Term};
 ghost use Rattle.term_core.specs.Terms.{is_atom_of};
 ghost use Rattle.term_core.specs.Printing.{is_cell};
@@ -59,7 +59,7 @@ fn atom_of(term: &Term) -> Option<u64>
 
 // The item and the tail of a list cell.
 fn list_cell(term: &Term) -> Option<(&Term, &Term)>
-    ensures { MatchOption result (is_cell (out-Term term.now) ≡ false) (λ parts. term.now ≡ Term.Node cell (parts.0.now ∷ parts.1.now ∷ [])) }
+    ensures { MatchOption result (is_cell (out-Term term.now) ≡ false) (λ parts. term.now ≡ Term.Node CELL (parts.0.now ∷ parts.1.now ∷ [])) }
 {
     match term {
         Term::Var(_) | Term::Int(_) | Term::Atom(_) => None,
@@ -77,7 +77,7 @@ fn list_cell(term: &Term) -> Option<(&Term, &Term)>
 }
 
 fn is_empty_list(term: &Term) -> bool
-    ensures { result ≡ is_atom_of nil (out-Term term.now) }
+    ensures { result ≡ is_atom_of NIL (out-Term term.now) }
 {
     match term {
         Term::Atom(name) => *name == NIL,

@@ -5,7 +5,7 @@ use Rattle.std.proofs.lemmas.Bool.{and_parts, eqb-true, not-true, true≢false}
 use Rattle.term_core.specs.declared.terms.Term.{Term, out-Term}
 use Rattle.term_core.specs.declared.terms.Term.TheOpen as layer
 use Rattle.term_core.specs.declared.terms.Term.TheVariants.{outs-Node}
-use Rattle.term_core.specs.Names.{neck}
+use Rattle.term_core.specs.declared.fixed.TheConstants.{NECK}
 use Rattle.prog_data.specs.declared.conditions.Prop.{Prop}
 use Rattle.prog_data.specs.Goals.{parts_of}
 use Rattle.ciao_top.specs.declared.units.assertions.ReadAssertion.{ReadAssertion}
@@ -18,7 +18,7 @@ use Rattle.ciao_top.proofs.NodeLaws.{same_part, same_first, same_second}
 -- `:- pred`
 
 pub same_asserted : (t u : Term) → asserted_term t ≡ asserted_term u → t ≡ u
-same_asserted t u e = same_part 19 19 t u (same_part neck neck _ _ e)
+same_asserted t u e = same_part 19 19 t u (same_part NECK NECK _ _ e)
 
 -- fields
 

@@ -4,7 +4,7 @@ use Rattle.std.specs.List.{list_all}
 use Rattle.std.proofs.lemmas.Bool.{and_parts, and_from}
 use Rattle.std.proofs.lemmas.List.Folds.{list_all-append}
 use Rattle.term_core.specs.declared.terms.Term.{Term, Node, out-Term}
-use Rattle.term_core.specs.Names.{comma}
+use Rattle.term_core.specs.declared.fixed.TheConstants.{COMMA}
 use Rattle.ciao_top.specs.declared.units.clauses.Body.{Body, One, Both, roll-Body}
 use Rattle.ciao_top.specs.declared.units.clauses.Body.TheVariants.{rolls-One, rolls-Both}
 use Rattle.ciao_top.specs.declared.units.clauses.Body.TheFolds.{fold-Body, fold-roll-Body, ind-Body, claims, map-Body}
@@ -38,7 +38,7 @@ module _ (A : Type 0) (step : layer.Body-F A → A) where
 pub term_of_one : (t : Term) → body_term (One t) ≡ t
 term_of_one t = fold-One Term body_term_step t
 
-pub term_of_both : (a b : Body) → body_term (Both a b) ≡ Node comma (body_term a ∷ body_term b ∷ [])
+pub term_of_both : (a b : Body) → body_term (Both a b) ≡ Node COMMA (body_term a ∷ body_term b ∷ [])
 term_of_both a b = fold-Both Term body_term_step a b
 
 -- goals

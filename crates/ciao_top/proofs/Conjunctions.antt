@@ -5,7 +5,7 @@ use Rattle.std.specs.List.{AllZip}
 use Rattle.std.proofs.lemmas.List.{append_assoc}
 use Rattle.term_core.specs.declared.terms.Term.{Term, out-Term}
 use Rattle.term_core.specs.declared.terms.Term as term
-use Rattle.term_core.specs.Names.{comma}
+use Rattle.term_core.specs.declared.fixed.TheConstants.{COMMA}
 use Rattle.prog_data.specs.declared.conditions.Prop.{Prop}
 use Rattle.ciao_top.specs.Properties.{property_at, Says}
 use Rattle.ciao_top.specs.SentenceTerms.{conjunction_term}
@@ -31,11 +31,11 @@ module _ (arguments : List Term) where
   one_conjunction t u [] [] (p ∷ []) (q ∷ []) e a b = ap (λ r. r ∷ []) (one_said u p q (subst (λ v. Says arguments v p) e a.0) b.0)
   one_conjunction t u [] [] (p ∷ r ∷ ps) (q ∷ qs) e a b = absurd a.1
   one_conjunction t u [] [] (p ∷ []) (q ∷ r ∷ qs) e a b = absurd b.1
-  one_conjunction t u [] (v ∷ us) (p ∷ ps) (q ∷ qs) e a b = absurd (no_pair_says comma u (conjunction_term v us) t p e a.0)
-  one_conjunction t u (v ∷ ts) [] (p ∷ ps) (q ∷ qs) e a b = absurd (no_pair_says comma t (conjunction_term v ts) u q (sym e) b.0)
+  one_conjunction t u [] (v ∷ us) (p ∷ ps) (q ∷ qs) e a b = absurd (no_pair_says COMMA u (conjunction_term v us) t p e a.0)
+  one_conjunction t u (v ∷ ts) [] (p ∷ ps) (q ∷ qs) e a b = absurd (no_pair_says COMMA t (conjunction_term v ts) u q (sym e) b.0)
   one_conjunction t u (v ∷ ts) (w ∷ us) (p ∷ ps) (q ∷ qs) e a b =
-      let first = same_first comma comma t (conjunction_term v ts) u (conjunction_term w us) e in
-      let second = same_second comma comma t (conjunction_term v ts) u (conjunction_term w us) e in
+      let first = same_first COMMA COMMA t (conjunction_term v ts) u (conjunction_term w us) e in
+      let second = same_second COMMA COMMA t (conjunction_term v ts) u (conjunction_term w us) e in
       ap (λ r. r ∷ ps) (one_said u p q (subst (λ x. Says arguments x p) first a.0) b.0) ∙ ap (λ rs. q ∷ rs) (one_conjunction v w ts us ps qs second a.1 b.1)
 
   pub one_all : (t : Term) (ps qs : List Prop) → SaysAll arguments t ps → SaysAll arguments t qs → ps ≡ qs
@@ -43,9 +43,9 @@ module _ (arguments : List Term) where
 
   -- an item, and what stands behind its comma
 
-  all_more : (t item rest : Term) (p : Prop) (ps : List Prop) → t ≡ term.Node comma (item ∷ rest ∷ []) → Says arguments item p → SaysAll arguments rest ps → SaysAll arguments t (p ∷ ps)
+  all_more : (t item rest : Term) (p : Prop) (ps : List Prop) → t ≡ term.Node COMMA (item ∷ rest ∷ []) → Says arguments item p → SaysAll arguments rest ps → SaysAll arguments t (p ∷ ps)
   all_more t item rest p ps e s a =
-      record { first = item; rest = a.first ∷ a.rest; whole = e ∙ ap (λ u. term.Node comma (item ∷ u ∷ [])) a.whole; says = (s, a.says) }
+      record { first = item; rest = a.first ∷ a.rest; whole = e ∙ ap (λ u. term.Node COMMA (item ∷ u ∷ [])) a.whole; says = (s, a.says) }
 
   record Parted (item rest : Term) : Type 0 where
     p : Prop
@@ -53,15 +53,15 @@ module _ (arguments : List Term) where
     here : Says arguments item p
     behind : SaysAll arguments rest ps
 
-  all_parted : (t item rest : Term) (qs : List Prop) → t ≡ term.Node comma (item ∷ rest ∷ []) → SaysAll arguments t qs → Parted item rest
+  all_parted : (t item rest : Term) (qs : List Prop) → t ≡ term.Node COMMA (item ∷ rest ∷ []) → SaysAll arguments t qs → Parted item rest
   all_parted t item rest qs e a = by a.rest a.first qs (sym e ∙ a.whole) a.says
     where
-      by : (us : List Term) (u : Term) (ps : List Prop) → term.Node comma (item ∷ rest ∷ []) ≡ conjunction_term u us → AllZip (Says arguments) (u ∷ us) ps → Parted item rest
+      by : (us : List Term) (u : Term) (ps : List Prop) → term.Node COMMA (item ∷ rest ∷ []) ≡ conjunction_term u us → AllZip (Says arguments) (u ∷ us) ps → Parted item rest
       by us u [] i s = absurd s
-      by [] u (p ∷ ps) i s = absurd (no_pair_says comma item rest u p (sym i) s.0)
+      by [] u (p ∷ ps) i s = absurd (no_pair_says COMMA item rest u p (sym i) s.0)
       by (v ∷ us) u (p ∷ ps) i s =
-          let first = same_first comma comma item rest u (conjunction_term v us) i in
-          let second = same_second comma comma item rest u (conjunction_term v us) i in
+          let first = same_first COMMA COMMA item rest u (conjunction_term v us) i in
+          let second = same_second COMMA COMMA item rest u (conjunction_term v us) i in
           record { p = p; ps = ps; here = subst (λ w. Says arguments w p) (sym first) s.0; behind = record { first = v; rest = us; whole = second; says = s.1 } }
 
   -- the last item
@@ -69,13 +69,13 @@ module _ (arguments : List Term) where
   all_last : (t : Term) (p : Prop) → Says arguments t p → SaysAll arguments t (p ∷ [])
   all_last t p s = record { first = t; rest = []; whole = refl; says = (s, tt) }
 
-  last_said : (t : Term) (qs : List Prop) → is_pair comma (out-Term t) ≡ false → SaysAll arguments t qs → (q : Prop) × Says arguments t q
+  last_said : (t : Term) (qs : List Prop) → is_pair COMMA (out-Term t) ≡ false → SaysAll arguments t qs → (q : Prop) × Says arguments t q
   last_said t qs n a = by a.rest a.first qs a.whole a.says
     where
       by : (us : List Term) (u : Term) (ps : List Prop) → t ≡ conjunction_term u us → AllZip (Says arguments) (u ∷ us) ps → (q : Prop) × Says arguments t q
       by us u [] i s = absurd s
       by [] u (p ∷ ps) i s = (p, subst (λ w. Says arguments w p) (sym i) s.0)
-      by (v ∷ us) u (p ∷ ps) i s = absurd (no_pair comma u (conjunction_term v us) t n i)
+      by (v ∷ us) u (p ∷ ps) i s = absurd (no_pair COMMA u (conjunction_term v us) t n i)
 
 -- the loop
 
@@ -85,7 +85,7 @@ pub record Behind (arguments : List Term) (start left : Term) (done : List Prop)
   pub comes : (qs : List Prop) → SaysAll arguments start qs → (ps : List Prop) × SaysAll arguments left ps
 
 module _ (arguments : List Term) (start left : Term) (done : List Prop) where
-  pub behind_more : (item rest : Term) (new : List Prop) (p : Prop) → Behind arguments start left done → left ≡ term.Node comma (item ∷ rest ∷ [])
+  pub behind_more : (item rest : Term) (new : List Prop) (p : Prop) → Behind arguments start left done → left ≡ term.Node COMMA (item ∷ rest ∷ [])
       → Says arguments item p → new ≡ done ++ p ∷ [] → Behind arguments start rest new
   behind_more item rest new p b e s pushed = record {
     leads = λ ps a.
@@ -97,14 +97,14 @@ module _ (arguments : List Term) (start left : Term) (done : List Prop) where
   pub behind_end : (new : List Prop) (p : Prop) → Behind arguments start left done → Says arguments left p → new ≡ done ++ p ∷ [] → SaysAll arguments start new
   behind_end new p b s pushed = subst (SaysAll arguments start) (sym pushed) (b.leads (p ∷ []) (all_last arguments left p s))
 
-  pub none_item : (item rest : Term) → Behind arguments start left done → left ≡ term.Node comma (item ∷ rest ∷ []) → property_at arguments (out-Term item) ≡ None
+  pub none_item : (item rest : Term) → Behind arguments start left done → left ≡ term.Node COMMA (item ∷ rest ∷ []) → property_at arguments (out-Term item) ≡ None
       → (qs : List Prop) → SaysAll arguments start qs → ⊥
   none_item item rest b e n qs a =
       let l = b.comes qs a in
       let parted = all_parted arguments left item rest l.0 e l.1 in
       let i : None ≡ Some parted.p = sym n ∙ parted.here in cc
 
-  pub none_last : Behind arguments start left done → is_pair comma (out-Term left) ≡ false → property_at arguments (out-Term left) ≡ None
+  pub none_last : Behind arguments start left done → is_pair COMMA (out-Term left) ≡ false → property_at arguments (out-Term left) ≡ None
       → (qs : List Prop) → SaysAll arguments start qs → ⊥
   none_last b e n qs a =
       let l = b.comes qs a in

@@ -2,7 +2,7 @@
 use Rattle.std.proofs.Common.{◌≡◌, List, [], ◌∷◌, length, refl, ap, sym, ◌∙◌, arith}
 use Rattle.term_core.specs.declared.terms.Term.{Term}
 use Rattle.term_core.specs.declared.terms.Term as term
-use Rattle.term_core.specs.Names.{neck}
+use Rattle.term_core.specs.declared.fixed.TheConstants.{NECK}
 use Rattle.ciao_reader.specs.declared.sentences.Sentence.{Sentence}
 use Rattle.ciao_top.specs.Words.{Word}
 use Rattle.ciao_top.specs.declared.units.clauses.ReadClause.{ReadClause}
@@ -19,7 +19,7 @@ use Rattle.ciao_top.proofs.SentenceLaws.{one_clause, no_directive_clause}
 no_changed_assertion : (names : List Word) (s : Sentence) (a : ReadAssertion) → ChangesOperators names s.term → IsAssertion s a → ⊥
 no_changed_assertion names s a x y =
     let t = with_field 28 (with_field 46 y.head y.pre) y.post in
-    let same = same_part neck neck (term.Node 19 (t ∷ [])) (term.Node x.directive x.parts) (sym y.whole ∙ x.whole) in
+    let same = same_part NECK NECK (term.Node 19 (t ∷ [])) (term.Node x.directive x.parts) (sym y.whole ∙ x.whole) in
     let parts : t ∷ [] ≡ x.parts = same_parts 19 x.directive (t ∷ []) x.parts same in
     let one : 1 ≡ length x.parts = ap length parts in
     let three : length x.parts ≡ 3 = x.three in

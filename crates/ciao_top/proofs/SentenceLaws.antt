@@ -3,7 +3,7 @@ use Rattle.std.proofs.Common.{◌≡◌, ℕ, List, [], ◌∷◌, map, pos, Opt
 use Rattle.std.specs.List.{list_all}
 use Rattle.term_core.specs.declared.terms.Term.{Term, Atom, Node, out-Term}
 use Rattle.term_core.specs.declared.terms.Term.TheVariants.{outs-Node}
-use Rattle.term_core.specs.Names.{nil, cell, comma, neck}
+use Rattle.term_core.specs.declared.fixed.TheConstants.{NIL, CELL, COMMA, NECK}
 use Rattle.ciao_reader.specs.declared.sentences.Sentence.{Sentence}
 use Rattle.ciao_reader.specs.Readings.{list_term}
 use Rattle.ciao_top.specs.declared.units.keys.Key.{Key}
@@ -18,8 +18,8 @@ use Rattle.ciao_top.proofs.BodyFolds.{ind_bodies, term_of_one, term_of_both, Are
 -- bodies
 
 -- a conjunction names no predicate of the user
-pub comma_is_no_goal : (t a b : Term) → t ≡ Node comma (a ∷ b ∷ []) → names_user_pred (out-Term t) ≡ true → ⊥
-comma_is_no_goal t a b e u = true≢false (sym u ∙ ap (λ x. names_user_pred (out-Term x)) e ∙ ap names_user_pred (outs-Node comma (a ∷ b ∷ [])))
+pub comma_is_no_goal : (t a b : Term) → t ≡ Node COMMA (a ∷ b ∷ []) → names_user_pred (out-Term t) ≡ true → ⊥
+comma_is_no_goal t a b e u = true≢false (sym u ∙ ap (λ x. names_user_pred (out-Term x)) e ∙ ap names_user_pred (outs-Node COMMA (a ∷ b ∷ [])))
 
 -- this body is no other with its term
 abbrev IsOnly : Body → Type 0
@@ -44,9 +44,9 @@ only_both a b p q = ind_bodies (λ other. body_term (Both a b) ≡ body_term oth
     at_both : (c d : Body) → (body_term (Both a b) ≡ body_term c → AreUser (Both a b) → AreUser c → Both a b ≡ c) → (body_term (Both a b) ≡ body_term d → AreUser (Both a b) → AreUser d → Both a b ≡ d)
         → body_term (Both a b) ≡ body_term (Both c d) → AreUser (Both a b) → AreUser (Both c d) → Both a b ≡ Both c d
     at_both c d r s e u v =
-        let w : Node comma (body_term a ∷ body_term b ∷ []) ≡ Node comma (body_term c ∷ body_term d ∷ []) = sym (term_of_both a b) ∙ e ∙ term_of_both c d in
-        let first = p c (same_first comma comma _ _ _ _ w) (both_user a b u).0 (both_user c d v).0 in
-        let second = q d (same_second comma comma _ _ _ _ w) (both_user a b u).1 (both_user c d v).1 in
+        let w : Node COMMA (body_term a ∷ body_term b ∷ []) ≡ Node COMMA (body_term c ∷ body_term d ∷ []) = sym (term_of_both a b) ∙ e ∙ term_of_both c d in
+        let first = p c (same_first COMMA COMMA _ _ _ _ w) (both_user a b u).0 (both_user c d v).0 in
+        let second = q d (same_second COMMA COMMA _ _ _ _ w) (both_user a b u).1 (both_user c d v).1 in
         ap (λ x. Both x b) first ∙ ap (Both c) second
 
 -- a term is one body at most
@@ -60,17 +60,17 @@ abbrev pub AreGoals : Option Body → Type 0
 AreGoals body = list_all (λ goal. names_user_pred (out-Term goal)) (clause_goals body) ≡ true
 
 -- what `:-` joins is no fact, nor is a directive
-pub neck_is_no_fact : (t a b : Term) → t ≡ Node neck (a ∷ b ∷ []) → may_be_fact (out-Term t) ≡ true → ⊥
-neck_is_no_fact t a b e h = true≢false (sym h ∙ ap (λ x. may_be_fact (out-Term x)) e ∙ ap (λ x. may_be_fact x) (outs-Node neck (a ∷ b ∷ [])))
+pub neck_is_no_fact : (t a b : Term) → t ≡ Node NECK (a ∷ b ∷ []) → may_be_fact (out-Term t) ≡ true → ⊥
+neck_is_no_fact t a b e h = true≢false (sym h ∙ ap (λ x. may_be_fact (out-Term x)) e ∙ ap (λ x. may_be_fact x) (outs-Node NECK (a ∷ b ∷ [])))
 
 directive_is_no_fact : (t d : Term) → t ≡ directive_term d → may_be_fact (out-Term t) ≡ true → ⊥
-directive_is_no_fact t d e h = true≢false (sym h ∙ ap (λ x. may_be_fact (out-Term x)) e ∙ ap (λ x. may_be_fact x) (outs-Node neck (d ∷ [])))
+directive_is_no_fact t d e h = true≢false (sym h ∙ ap (λ x. may_be_fact (out-Term x)) e ∙ ap (λ x. may_be_fact x) (outs-Node NECK (d ∷ [])))
 
 same_clause : (h k : Term) (b c : Option Body) → clause_term h b ≡ clause_term k c → is_head b h ≡ true → is_head c k ≡ true → AreGoals b → AreGoals c → (h ≡ k) × (b ≡ c)
 same_clause h k None None e p q u v = (e, refl)
 same_clause h k None (Some c) e p q u v = absurd (neck_is_no_fact h k (body_term c) e p)
 same_clause h k (Some b) None e p q u v = absurd (neck_is_no_fact k h (body_term b) (sym e) q)
-same_clause h k (Some b) (Some c) e p q u v = (same_first neck neck _ _ _ _ e, ap (λ x. Some x) (one_body b c (same_second neck neck _ _ _ _ e) u v))
+same_clause h k (Some b) (Some c) e p q u v = (same_first NECK NECK _ _ _ _ e, ap (λ x. Some x) (one_body b c (same_second NECK NECK _ _ _ _ e) u v))
 
 -- a sentence is one clause at most
 pub one_clause : (s : Sentence) (c d : ReadClause) → IsClause s c → IsClause s d → c ≡ d
@@ -82,7 +82,7 @@ one_clause s c d x y =
 
 no_directive : (h d : Term) (b : Option Body) → clause_term h b ≡ directive_term d → is_head b h ≡ true → ⊥
 no_directive h d None e p = directive_is_no_fact h d e p
-no_directive h d (Some b) e p = one_is_not_two neck neck d h (body_term b) (sym e)
+no_directive h d (Some b) e p = one_is_not_two NECK NECK d h (body_term b) (sym e)
 
 -- no directive is a clause
 pub no_directive_clause : (s : Sentence) (c : ReadClause) (d : Term) → IsClause s c → s.term ≡ directive_term d → ⊥
@@ -101,21 +101,21 @@ one_export x y e =
     whole m n e = cc
 
 -- a term is one list of exports at most
-pub one_list : (k l : List Key) → list_term (map export_term k) (Atom nil) ≡ list_term (map export_term l) (Atom nil) → k ≡ l
+pub one_list : (k l : List Key) → list_term (map export_term k) (Atom NIL) ≡ list_term (map export_term l) (Atom NIL) → k ≡ l
 one_list [] [] e = refl
-one_list [] (y ∷ l) e = absurd (node_is_no_atom cell nil _ (sym e))
-one_list (x ∷ k) [] e = absurd (node_is_no_atom cell nil _ e)
-one_list (x ∷ k) (y ∷ l) e = ap (λ z. z ∷ k) (one_export x y (same_first cell cell _ _ _ _ e)) ∙ ap (λ zs. y ∷ zs) (one_list k l (same_second cell cell _ _ _ _ e))
+one_list [] (y ∷ l) e = absurd (node_is_no_atom CELL NIL _ (sym e))
+one_list (x ∷ k) [] e = absurd (node_is_no_atom CELL NIL _ e)
+one_list (x ∷ k) (y ∷ l) e = ap (λ z. z ∷ k) (one_export x y (same_first CELL CELL _ _ _ _ e)) ∙ ap (λ zs. y ∷ zs) (one_list k l (same_second CELL CELL _ _ _ _ e))
 
 -- a sentence is one module directive at most
 pub one_exports : (names : List Word) (base : Word) (t : Term) (k l : List Key) → IsModule names base t k → IsModule names base t l → k ≡ l
-one_exports names base t k l x y = one_list k l (same_second x.directive y.directive _ _ _ _ (same_part neck neck _ _ (sym x.whole ∙ y.whole)))
+one_exports names base t k l x y = one_list k l (same_second x.directive y.directive _ _ _ _ (same_part NECK NECK _ _ (sym x.whole ∙ y.whole)))
 
 -- it is named so
 pub module_is_named : (names : List Word) (base : Word) (t : Term) (k : List Key) → IsModule names base t k → NamesModule names t
 module_is_named names base t k x = record {
   directive = x.directive;
-  parts = x.name ∷ list_term (map export_term k) (Atom nil) ∷ [];
+  parts = x.name ∷ list_term (map export_term k) (Atom NIL) ∷ [];
   is_directive = x.is_directive;
   two_or_three = inl refl;
   whole = x.whole;

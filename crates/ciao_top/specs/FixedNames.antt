@@ -1,6 +1,7 @@
 -- The numbers of names that definitions of sentences cite, and their texts.
 use Rattle.std.specs.Prelude.{◌≡◌, ℕ, suc, Bool, List, [], ◌∷◌, if◌then◌else◌, slice_get, Option, Some, None, codes}
-use Rattle.term_core.specs.Names.{fixed_names, comma, neck}
+use Rattle.term_core.specs.Names.{fixed_names}
+use Rattle.term_core.specs.declared.fixed.TheConstants.{COMMA, NECK}
 use Rattle.prog_data.specs.declared.conditions.Prop.{Prop}
 use Rattle.prog_data.specs.declared.conditions.Prop.TheVariants.{Belongs, IsVar, IsNonvar, IsGround}
 use Rattle.ciao_top.specs.Words.{Word}
@@ -35,8 +36,8 @@ pub record FixedNamesArePlaces : Type 0 where
   pub with_two : texts_where (λ n. is_built_in n 2) 0 fixed_names ≡
       codes "=" ∷ codes "\\=" ∷ codes "==" ∷ codes "\\==" ∷ codes "is" ∷ codes "=:=" ∷ codes "=\\=" ∷ codes "<" ∷ codes ">" ∷ codes "=<" ∷ codes ">=" ∷ codes "list" ∷ []
   pub field_names : texts_where is_field_name 0 fixed_names ≡ codes "#" ∷ codes "=>" ∷ codes ":" ∷ codes "+" ∷ []
-  pub comma_is : slice_get fixed_names comma ≡ Some (codes ",")
-  pub neck_is : slice_get fixed_names neck ≡ Some (codes ":-")
+  pub comma_is : slice_get fixed_names COMMA ≡ Some (codes ",")
+  pub neck_is : slice_get fixed_names NECK ≡ Some (codes ":-")
   pub pred_is : slice_get fixed_names 19 ≡ Some (codes "pred")
   pub implies_is : slice_get fixed_names 28 ≡ Some (codes "=>")
   pub colon_is : slice_get fixed_names 46 ≡ Some (codes ":")

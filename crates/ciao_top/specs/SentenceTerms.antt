@@ -6,7 +6,7 @@ use Rattle.term_core.specs.declared.terms.Term as term
 use Rattle.ciao_top.specs.declared.units.clauses.Body.{Body}
 use Rattle.ciao_top.specs.declared.units.clauses.Body.TheOpen.{Body-F, One, Both}
 use Rattle.ciao_top.specs.declared.units.clauses.Body.TheFolds.{fold-Body}
-use Rattle.term_core.specs.Names.{nil, comma, neck}
+use Rattle.term_core.specs.declared.fixed.TheConstants.{NIL, COMMA, NECK}
 use Rattle.prog_data.specs.Goals.{parts_of}
 use Rattle.ciao_reader.specs.declared.sentences.Sentence.{Sentence}
 use Rattle.ciao_reader.specs.Readings.{list_term}
@@ -20,7 +20,7 @@ use Rattle.ciao_top.specs.declared.units.assertions.ReadAssertion.{ReadAssertion
 
 -- `:- D`
 abbrev pub directive_term : Term → Term
-directive_term directive = term.Node neck (directive ∷ [])
+directive_term directive = term.Node NECK (directive ∷ [])
 
 -- the module directive
 
@@ -30,7 +30,7 @@ export_term key = term.Node 50 (term.Atom key.name ∷ term.Int (pos key.arity) 
 
 -- `module(M,[F/N,..,F/N])`, by the name `module`
 abbrev pub module_term : ℕ → Term → List Key → Term
-module_term directive name exports = term.Node directive (name ∷ list_term (map export_term exports) (term.Atom nil) ∷ [])
+module_term directive name exports = term.Node directive (name ∷ list_term (map export_term exports) (term.Atom NIL) ∷ [])
 
 -- a module's name is the base name of its file, or a variable
 abbrev pub IsModuleName : List Word → Word → Term → Type 0
@@ -67,7 +67,7 @@ pub record ChangesOperators (names : List Word) (t : Term) : Type 0 where
 -- a body as a term, from its parts: a comma joins them
 abbrev pub body_term_step : Body-F Term → Term
 body_term_step (One goal) = goal
-body_term_step (Both first second) = term.Node comma (first ∷ second ∷ [])
+body_term_step (Both first second) = term.Node COMMA (first ∷ second ∷ [])
 
 abbrev pub body_term : Body → Term
 body_term = fold-Body Term body_term_step
@@ -83,7 +83,7 @@ goals_of = fold-Body (List Term) goals_step
 -- a clause as one term
 abbrev pub clause_term : Term → Option Body → Term
 clause_term head None = head
-clause_term head (Some body) = term.Node neck (head ∷ body_term body ∷ [])
+clause_term head (Some body) = term.Node NECK (head ∷ body_term body ∷ [])
 
 -- the goals of a clause
 abbrev pub clause_goals : Option Body → List Term
@@ -108,7 +108,7 @@ pub record IsClause (sentence : Sentence) (clause : ReadClause) : Type 0 where
 -- terms joined by commas
 abbrev pub conjunction_term : Term → List Term → Term
 conjunction_term t [] = t
-conjunction_term t (next ∷ rest) = term.Node comma (t ∷ conjunction_term next rest ∷ [])
+conjunction_term t (next ∷ rest) = term.Node COMMA (t ∷ conjunction_term next rest ∷ [])
 
 -- a field behind a term: nothing, or its mark and its properties
 abbrev pub with_field : ℕ → Term → List Term → Term

@@ -4,7 +4,7 @@ use Rattle.std.specs.Prelude.{◌==◌, ◌^◌, ℤ, pos, Ok, Err, cond, ◌+�
 use Rattle.std.specs.List.{list_all, AllByRecursion}
 use Rattle.std.specs.declared.result.Result.{Result}
 use Rattle.term_core.specs.declared.terms.Term.{Term}
-use Rattle.term_core.specs.Names.{plus, minus, times, quotient, remainder, modulo}
+use Rattle.term_core.specs.declared.fixed.TheConstants.{PLUS, MINUS, TIMES, QUOTIENT, REMAINDER, MODULO}
 use Rattle.term_core.specs.Terms.{is_ground, is_ground_step}
 use Rattle.term_core.proofs.TermFolds.{fold-Var, fold-Int, fold-Atom, fold-Node, ind_terms}
 use Rattle.prog_data.specs.declared.events.ArithKind.{ArithKind}
@@ -39,16 +39,16 @@ either true x y n f g is = f is
 either false x y n f g is = g is
 
 one_has : (f : ℕ) (a : Number) (n : ℤ) → apply f (a ∷ []) ≡ Ok n → HasNumber a
-one_has f a n = either (f == minus) _ _ n (of_one _ a n) (no_number NotNumber n)
+one_has f a n = either (f == MINUS) _ _ n (of_one _ a n) (no_number NotNumber n)
 
 two_have : (f : ℕ) (a b : Number) (n : ℤ) → apply f (a ∷ b ∷ []) ≡ Ok n → HasNumber a × HasNumber b
 two_have f a b n =
-    either (f == plus) _ _ n (of_both _ a b n)
-    (either (f == minus) _ _ n (of_both _ a b n)
-    (either (f == times) _ _ n (of_both _ a b n)
-    (either (f == quotient) _ _ n (of_both _ a b n)
-    (either (f == remainder) _ _ n (of_both _ a b n)
-    (either (f == modulo) _ _ n (of_both _ a b n)
+    either (f == PLUS) _ _ n (of_both _ a b n)
+    (either (f == MINUS) _ _ n (of_both _ a b n)
+    (either (f == TIMES) _ _ n (of_both _ a b n)
+    (either (f == QUOTIENT) _ _ n (of_both _ a b n)
+    (either (f == REMAINDER) _ _ n (of_both _ a b n)
+    (either (f == MODULO) _ _ n (of_both _ a b n)
     (no_number NotNumber n))))))
 
 abbrev Ground : Term → Type 0

@@ -9,7 +9,7 @@ use Rattle.term_core.specs.declared.terms.Term.TheFolds.{fold-Term}
 use Rattle.prog_data.specs.declared.events.ArithKind.{ArithKind}
 use Rattle.prog_data.specs.declared.events.ArithKind.TheVariants.{Overflow, ZeroDivisor, Unbound, NotNumber}
 use Rattle.term_core.specs.Terms.{is_ground}
-use Rattle.term_core.specs.Names.{plus, minus, times, quotient, remainder, modulo}
+use Rattle.term_core.specs.declared.fixed.TheConstants.{PLUS, MINUS, TIMES, QUOTIENT, REMAINDER, MODULO}
 
 -- a number, or a fault of arithmetic
 abbrev pub Number : Type 0
@@ -41,14 +41,14 @@ with_one by (Ok a) = by a
 -- a compound's value from those of its parts, the left one's fault first
 abbrev pub apply : ℕ → List Number → Number
 apply f [] = Err NotNumber
-apply f (a ∷ []) = if f == minus then with_one (λ x. within (neg_ℤ x)) a else Err NotNumber
+apply f (a ∷ []) = if f == MINUS then with_one (λ x. within (neg_ℤ x)) a else Err NotNumber
 apply f (a ∷ b ∷ []) =
-    if f == plus then with_both (λ x y. within (x +ℤ y)) a b else
-    if f == minus then with_both (λ x y. within (x -ℤ y)) a b else
-    if f == times then with_both (λ x y. within (x *ℤ y)) a b else
-    if f == quotient then with_both (divided int_div) a b else
-    if f == remainder then with_both (divided int_rem) a b else
-    if f == modulo then with_both (divided modulus) a b else Err NotNumber
+    if f == PLUS then with_both (λ x y. within (x +ℤ y)) a b else
+    if f == MINUS then with_both (λ x y. within (x -ℤ y)) a b else
+    if f == TIMES then with_both (λ x y. within (x *ℤ y)) a b else
+    if f == QUOTIENT then with_both (divided int_div) a b else
+    if f == REMAINDER then with_both (divided int_rem) a b else
+    if f == MODULO then with_both (divided modulus) a b else Err NotNumber
 apply f (a ∷ b ∷ c ∷ rest) = Err NotNumber
 
 -- the value of a term, from those of its parts

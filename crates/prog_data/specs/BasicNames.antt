@@ -3,7 +3,7 @@ use Rattle.std.specs.Prelude.{[], ◌∷◌}
 use Rattle.prog_data.specs.declared.grammars.Basic.TheVariants as basic
 use Rattle.prog_data.specs.declared.grammars.Rule.TheVariants.{Basic, Atom, Node, Unit as UnitRule}
 use Rattle.prog_data.specs.declared.grammars.Grammar.{Grammar}
-use Rattle.term_core.specs.Names.{nil, cell}
+use Rattle.term_core.specs.declared.fixed.TheConstants.{NIL, CELL}
 
 -- the names 0 to 9: term, int, nnegint, num, atm, gnd, constant, struct, callable and list
 abbrev pub basic_grammar : Grammar
@@ -18,6 +18,6 @@ basic_grammar = record {
       (Basic basic.Int ∷ Basic basic.Atm ∷ []) ∷
       (Basic basic.Struct ∷ []) ∷
       (Basic basic.Atm ∷ Basic basic.Struct ∷ []) ∷
-      (Atom nil ∷ Node cell (0 ∷ 9 ∷ []) ∷ []) ∷
+      (Atom NIL ∷ Node CELL (0 ∷ 9 ∷ []) ∷ []) ∷
       [];
 }

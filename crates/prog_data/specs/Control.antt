@@ -5,7 +5,7 @@ use Rattle.prog_data.specs.declared.control.Control.TheVariants as control
 use Rattle.prog_data.specs.declared.control.Meaning.{Meaning}
 use Rattle.prog_data.specs.declared.control.Meaning.TheVariants.{Control, Builtin, ListTest}
 use Rattle.prog_data.specs.declared.control.Predefined.{Predefined}
-use Rattle.prog_data.specs.declared.control.TheConstants.{COMMA, BAR, CUT, SEMICOLON, TRUE, FAIL, ARROW, NEGATION, EQUALS, NOT_EQUALS, SAME, NOT_SAME, IS, NUMBER_EQUALS, NUMBER_NOT_EQUALS, LESS, GREATER, LESS_OR_EQUAL, GREATER_OR_EQUAL, INTEGER, ATOM, WRITE, WRITEQ, NL, TERM, INT, NNEGINT, NUM, ATM, GND, CONSTANT, STRUCT, CALLABLE, LIST, VAR, NONVAR, GROUND}
+use Rattle.term_core.specs.declared.fixed.TheConstants.{COMMA, BAR, CUT, SEMICOLON, TRUE, FAIL, ARROW, NEGATION, EQUALS, NOT_EQUALS, SAME, NOT_SAME, IS, NUMBER_EQUALS, NUMBER_NOT_EQUALS, LESS, GREATER, LESS_OR_EQUAL, GREATER_OR_EQUAL, INTEGER, ATOM, WRITE, WRITEQ, NL, TERM, INT, NNEGINT, NUM, ATM, GND, CONSTANT, STRUCT, CALLABLE, LIST, VAR, NONVAR, GROUND}
 use Rattle.prog_data.specs.declared.basic_names.TheConstants.{TERM_TYPE, INT_TYPE, NNEGINT_TYPE, NUM_TYPE, ATM_TYPE, GND_TYPE, CONSTANT_TYPE, STRUCT_TYPE, CALLABLE_TYPE, LIST_TYPE}
 
 -- a name with so many arguments, and its meaning

@@ -7,80 +7,12 @@ use crate::basic_names::{
     ATM_TYPE, CALLABLE_TYPE, CONSTANT_TYPE, GND_TYPE, INT_TYPE, LIST_TYPE, NNEGINT_TYPE, NUM_TYPE,
     STRUCT_TYPE, TERM_TYPE,
 };
-
-const COMMA: u64 = 3;
-
-const BAR: u64 = 4;
-
-const CUT: u64 = 5;
-
-const SEMICOLON: u64 = 6;
-
-const TRUE: u64 = 8;
-
-const FAIL: u64 = 9;
-
-const ARROW: u64 = 25;
-
-const NEGATION: u64 = 29;
-
-const EQUALS: u64 = 30;
-
-const NOT_EQUALS: u64 = 31;
-
-const SAME: u64 = 32;
-
-const NOT_SAME: u64 = 33;
-
-const IS: u64 = 39;
-
-const NUMBER_EQUALS: u64 = 40;
-
-const NUMBER_NOT_EQUALS: u64 = 41;
-
-const LESS: u64 = 42;
-
-const GREATER: u64 = 43;
-
-const LESS_OR_EQUAL: u64 = 44;
-
-const GREATER_OR_EQUAL: u64 = 45;
-
-const INTEGER: u64 = 57;
-
-const ATOM: u64 = 58;
-
-const WRITE: u64 = 59;
-
-const WRITEQ: u64 = 60;
-
-const NL: u64 = 61;
-
-const TERM: u64 = 62;
-
-const INT: u64 = 63;
-
-const NNEGINT: u64 = 64;
-
-const NUM: u64 = 65;
-
-const ATM: u64 = 66;
-
-const GND: u64 = 67;
-
-const CONSTANT: u64 = 68;
-
-const STRUCT: u64 = 69;
-
-const CALLABLE: u64 = 70;
-
-const LIST: u64 = 71;
-
-const VAR: u64 = 72;
-
-const NONVAR: u64 = 73;
-
-const GROUND: u64 = 74;
+use term_core::{
+    ARROW, ATM, ATOM, BAR, CALLABLE, COMMA, CONSTANT, CUT, EQUALS, FAIL, GND, GREATER,
+    GREATER_OR_EQUAL, GROUND, INT, INTEGER, IS, LESS, LESS_OR_EQUAL, LIST, NEGATION, NL, NNEGINT,
+    NONVAR, NOT_EQUALS, NOT_SAME, NUM, NUMBER_EQUALS, NUMBER_NOT_EQUALS, SAME, SEMICOLON, STRUCT,
+    TERM, TRUE, VAR, WRITE, WRITEQ,
+};
 
 /// A construct of control.
 #[derive(Clone, Copy, Drop, Debug)]

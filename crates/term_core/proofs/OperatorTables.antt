@@ -9,7 +9,7 @@ use Rattle.term_core.specs.declared.operators.OpKind.{OpKind}
 use Rattle.term_core.specs.declared.operators.OpKind.TheVariants.{Xfy, Yfx, Fy}
 use Rattle.term_core.specs.declared.operators.Definition.{Definition}
 use Rattle.term_core.specs.declared.operators.Operators.{Operators}
-use Rattle.term_core.specs.Names.{comma, bar}
+use Rattle.term_core.specs.declared.fixed.TheConstants.{COMMA, BAR}
 use Rattle.term_core.specs.Operators.{prefix_of, infix_of, defined, is_yfx, is_xfy, is_fy, is_before, has_kind, is_torn_at, is_torn, redefined, changed, is_reserved, checked_change, added}
 use Rattle.term_core.specs.Standard.{standard, IsMade, start, change}
 use Rattle.term_core.specs.OperatorLaws.{NamesOnce, IsPriority, IsOrderly, HasOneRoot}
@@ -137,8 +137,8 @@ one_root ops k = record {
       let io = prefix_parts ops k f o df in
       let iq = infix_parts ops k g q dg in
       apart o q (is_fy o.kind) (is_yfx q.kind) (above_zero _ iq.0) refl (prefix_below o.kind o.priority (above_zero _ io.0) io.1) (prefix_tie ops k f g o q df dg) l;
-  comma = λ q e. subst (λ (o : Op). 999 < o.priority) (same_Some _ _ (sym (k.reserved comma refl).1 ∙ e)) (omega arith);
-  bar = λ q e. subst (λ (o : Op). 999 < o.priority) (same_Some _ _ (sym (k.reserved bar refl).1 ∙ e)) (omega arith);
+  comma = λ q e. subst (λ (o : Op). 999 < o.priority) (same_Some _ _ (sym (k.reserved COMMA refl).1 ∙ e)) (omega arith);
+  bar = λ q e. subst (λ (o : Op). 999 < o.priority) (same_Some _ _ (sym (k.reserved BAR refl).1 ∙ e)) (omega arith);
 }
 
 pub made_orderly : (ops : Operators) → IsMade ops → IsOrderly ops

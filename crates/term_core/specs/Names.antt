@@ -1,6 +1,7 @@
 -- Names: a list of distinct texts, and the texts with which it begins.
 use Rattle.std.specs.Prelude.{◌≡◌, ℕ, List, [], ◌∷◌, ◌++◌, Option, Some, slice_get, if◌then◌else◌, bytes_eq, codes, position}
 use Rattle.std.specs.List.{list_any, position_or_len}
+use Rattle.term_core.specs.declared.fixed.TheConstants.{NIL, CELL, BRACES, COMMA, BAR, CUT, SEMICOLON, EXIT, TRUE, FAIL, FALSE, CHECK, TRUST, CHECKED, LIBRARY, NECK, GRAMMAR_ARROW, QUERY, DEFINES, PRED, CALLS, SUCCESS, COMP, ENTRY, REGTYPE, ARROW, QUESTION, HASH, IMPLIES, NEGATION, EQUALS, NOT_EQUALS, SAME, NOT_SAME, BEFORE, AFTER, BEFORE_OR_SAME, AFTER_OR_SAME, UNIV, IS, NUMBER_EQUALS, NUMBER_NOT_EQUALS, LESS, GREATER, LESS_OR_EQUAL, GREATER_OR_EQUAL, COLON, PLUS, MINUS, TIMES, SLASH, QUOTIENT, REMAINDER, MODULO, POWER, CARET, TILDE, INTEGER, ATOM, WRITE, WRITEQ, NL, TERM, INT, NNEGINT, NUM, ATM, GND, CONSTANT, STRUCT, CALLABLE, LIST, VAR, NONVAR, GROUND}
 
 -- lists of texts
 
@@ -39,67 +40,80 @@ fixed_names =
     codes "term" ∷ codes "int" ∷ codes "nnegint" ∷ codes "num" ∷ codes "atm" ∷ codes "gnd" ∷ codes "constant" ∷ codes "struct" ∷
     codes "callable" ∷ codes "list" ∷ codes "var" ∷ codes "nonvar" ∷ codes "ground" ∷ []
 
--- the numbers that definitions cite
-
--- []
-abbrev pub nil : ℕ
-nil = 0
-
--- the list cell
-abbrev pub cell : ℕ
-cell = 1
-
--- {}
-abbrev pub braces : ℕ
-braces = 2
-
--- the comma
-abbrev pub comma : ℕ
-comma = 3
-
--- the bar
-abbrev pub bar : ℕ
-bar = 4
-
--- :-
-abbrev pub neck : ℕ
-neck = 15
-
--- +
-abbrev pub plus : ℕ
-plus = 47
-
--- -
-abbrev pub minus : ℕ
-minus = 48
-
--- *
-abbrev pub times : ℕ
-times = 49
-
--- //
-abbrev pub quotient : ℕ
-quotient = 51
-
--- rem
-abbrev pub remainder : ℕ
-remainder = 52
-
--- mod
-abbrev pub modulo : ℕ
-modulo = 53
-
 -- each of these numbers is the place of its text
 pub record NamesArePlaces : Type 0 where
-  pub nil_is : slice_get fixed_names nil ≡ Some (codes "[]")
-  pub cell_is : slice_get fixed_names cell ≡ Some (codes ".")
-  pub braces_is : slice_get fixed_names braces ≡ Some (codes "{}")
-  pub comma_is : slice_get fixed_names comma ≡ Some (codes ",")
-  pub bar_is : slice_get fixed_names bar ≡ Some (codes "|")
-  pub neck_is : slice_get fixed_names neck ≡ Some (codes ":-")
-  pub plus_is : slice_get fixed_names plus ≡ Some (codes "+")
-  pub minus_is : slice_get fixed_names minus ≡ Some (codes "-")
-  pub times_is : slice_get fixed_names times ≡ Some (codes "*")
-  pub quotient_is : slice_get fixed_names quotient ≡ Some (codes "//")
-  pub remainder_is : slice_get fixed_names remainder ≡ Some (codes "rem")
-  pub modulo_is : slice_get fixed_names modulo ≡ Some (codes "mod")
+  pub nil_is : slice_get fixed_names NIL ≡ Some (codes "[]")
+  pub cell_is : slice_get fixed_names CELL ≡ Some (codes ".")
+  pub braces_is : slice_get fixed_names BRACES ≡ Some (codes "{}")
+  pub comma_is : slice_get fixed_names COMMA ≡ Some (codes ",")
+  pub bar_is : slice_get fixed_names BAR ≡ Some (codes "|")
+  pub cut_is : slice_get fixed_names CUT ≡ Some (codes "!")
+  pub semicolon_is : slice_get fixed_names SEMICOLON ≡ Some (codes ";")
+  pub exit_is : slice_get fixed_names EXIT ≡ Some (codes "$exit")
+  pub true_is : slice_get fixed_names TRUE ≡ Some (codes "true")
+  pub fail_is : slice_get fixed_names FAIL ≡ Some (codes "fail")
+  pub false_is : slice_get fixed_names FALSE ≡ Some (codes "false")
+  pub check_is : slice_get fixed_names CHECK ≡ Some (codes "check")
+  pub trust_is : slice_get fixed_names TRUST ≡ Some (codes "trust")
+  pub checked_is : slice_get fixed_names CHECKED ≡ Some (codes "checked")
+  pub library_is : slice_get fixed_names LIBRARY ≡ Some (codes "library")
+  pub neck_is : slice_get fixed_names NECK ≡ Some (codes ":-")
+  pub grammar_arrow_is : slice_get fixed_names GRAMMAR_ARROW ≡ Some (codes "-->")
+  pub query_is : slice_get fixed_names QUERY ≡ Some (codes "?-")
+  pub defines_is : slice_get fixed_names DEFINES ≡ Some (codes ":=")
+  pub pred_is : slice_get fixed_names PRED ≡ Some (codes "pred")
+  pub calls_is : slice_get fixed_names CALLS ≡ Some (codes "calls")
+  pub success_is : slice_get fixed_names SUCCESS ≡ Some (codes "success")
+  pub comp_is : slice_get fixed_names COMP ≡ Some (codes "comp")
+  pub entry_is : slice_get fixed_names ENTRY ≡ Some (codes "entry")
+  pub regtype_is : slice_get fixed_names REGTYPE ≡ Some (codes "regtype")
+  pub arrow_is : slice_get fixed_names ARROW ≡ Some (codes "->")
+  pub question_is : slice_get fixed_names QUESTION ≡ Some (codes "?")
+  pub hash_is : slice_get fixed_names HASH ≡ Some (codes "#")
+  pub implies_is : slice_get fixed_names IMPLIES ≡ Some (codes "=>")
+  pub negation_is : slice_get fixed_names NEGATION ≡ Some (codes "\\+")
+  pub equals_is : slice_get fixed_names EQUALS ≡ Some (codes "=")
+  pub not_equals_is : slice_get fixed_names NOT_EQUALS ≡ Some (codes "\\=")
+  pub same_is : slice_get fixed_names SAME ≡ Some (codes "==")
+  pub not_same_is : slice_get fixed_names NOT_SAME ≡ Some (codes "\\==")
+  pub before_is : slice_get fixed_names BEFORE ≡ Some (codes "@<")
+  pub after_is : slice_get fixed_names AFTER ≡ Some (codes "@>")
+  pub before_or_same_is : slice_get fixed_names BEFORE_OR_SAME ≡ Some (codes "@=<")
+  pub after_or_same_is : slice_get fixed_names AFTER_OR_SAME ≡ Some (codes "@>=")
+  pub univ_is : slice_get fixed_names UNIV ≡ Some (codes "=..")
+  pub is_is : slice_get fixed_names IS ≡ Some (codes "is")
+  pub number_equals_is : slice_get fixed_names NUMBER_EQUALS ≡ Some (codes "=:=")
+  pub number_not_equals_is : slice_get fixed_names NUMBER_NOT_EQUALS ≡ Some (codes "=\\=")
+  pub less_is : slice_get fixed_names LESS ≡ Some (codes "<")
+  pub greater_is : slice_get fixed_names GREATER ≡ Some (codes ">")
+  pub less_or_equal_is : slice_get fixed_names LESS_OR_EQUAL ≡ Some (codes "=<")
+  pub greater_or_equal_is : slice_get fixed_names GREATER_OR_EQUAL ≡ Some (codes ">=")
+  pub colon_is : slice_get fixed_names COLON ≡ Some (codes ":")
+  pub plus_is : slice_get fixed_names PLUS ≡ Some (codes "+")
+  pub minus_is : slice_get fixed_names MINUS ≡ Some (codes "-")
+  pub times_is : slice_get fixed_names TIMES ≡ Some (codes "*")
+  pub slash_is : slice_get fixed_names SLASH ≡ Some (codes "/")
+  pub quotient_is : slice_get fixed_names QUOTIENT ≡ Some (codes "//")
+  pub remainder_is : slice_get fixed_names REMAINDER ≡ Some (codes "rem")
+  pub modulo_is : slice_get fixed_names MODULO ≡ Some (codes "mod")
+  pub power_is : slice_get fixed_names POWER ≡ Some (codes "**")
+  pub caret_is : slice_get fixed_names CARET ≡ Some (codes "^")
+  pub tilde_is : slice_get fixed_names TILDE ≡ Some (codes "~")
+  pub integer_is : slice_get fixed_names INTEGER ≡ Some (codes "integer")
+  pub atom_is : slice_get fixed_names ATOM ≡ Some (codes "atom")
+  pub write_is : slice_get fixed_names WRITE ≡ Some (codes "write")
+  pub writeq_is : slice_get fixed_names WRITEQ ≡ Some (codes "writeq")
+  pub nl_is : slice_get fixed_names NL ≡ Some (codes "nl")
+  pub term_is : slice_get fixed_names TERM ≡ Some (codes "term")
+  pub int_is : slice_get fixed_names INT ≡ Some (codes "int")
+  pub nnegint_is : slice_get fixed_names NNEGINT ≡ Some (codes "nnegint")
+  pub num_is : slice_get fixed_names NUM ≡ Some (codes "num")
+  pub atm_is : slice_get fixed_names ATM ≡ Some (codes "atm")
+  pub gnd_is : slice_get fixed_names GND ≡ Some (codes "gnd")
+  pub constant_is : slice_get fixed_names CONSTANT ≡ Some (codes "constant")
+  pub struct_is : slice_get fixed_names STRUCT ≡ Some (codes "struct")
+  pub callable_is : slice_get fixed_names CALLABLE ≡ Some (codes "callable")
+  pub list_is : slice_get fixed_names LIST ≡ Some (codes "list")
+  pub var_is : slice_get fixed_names VAR ≡ Some (codes "var")
+  pub nonvar_is : slice_get fixed_names NONVAR ≡ Some (codes "nonvar")
+  pub ground_is : slice_get fixed_names GROUND ≡ Some (codes "ground")

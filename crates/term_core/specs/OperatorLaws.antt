@@ -6,7 +6,7 @@ use Rattle.term_core.specs.declared.operators.OpKind.{OpKind}
 use Rattle.term_core.specs.declared.operators.OpKind.TheVariants.{Xfy, Yfx, Fy}
 use Rattle.term_core.specs.declared.operators.Definition.{Definition}
 use Rattle.term_core.specs.declared.operators.Operators.{Operators}
-use Rattle.term_core.specs.Names.{comma, bar}
+use Rattle.term_core.specs.declared.fixed.TheConstants.{COMMA, BAR}
 use Rattle.term_core.specs.Operators.{prefix_of, infix_of, is_before, left_limit, right_limit, is_reserved, added}
 use Rattle.term_core.specs.Standard.{standard, IsMade}
 
@@ -32,8 +32,8 @@ pub record IsOrderly (ops : Operators) : Type 0 where
 pub record HasOneRoot (ops : Operators) : Type 0 where
   pub infix_ties : (f g : ℕ) (o q : Op) → infix_of ops f ≡ Some o → infix_of ops g ≡ Some q → o.priority ≤ left_limit q → right_limit o < q.priority
   pub prefix_ties : (f g : ℕ) (o q : Op) → prefix_of ops f ≡ Some o → infix_of ops g ≡ Some q → o.priority ≤ left_limit q → right_limit o < q.priority
-  pub comma : (q : Op) → infix_of ops comma ≡ Some q → 999 < q.priority
-  pub bar : (q : Op) → infix_of ops bar ≡ Some q → 999 < q.priority
+  pub comma : (q : Op) → infix_of ops COMMA ≡ Some q → 999 < q.priority
+  pub bar : (q : Op) → infix_of ops BAR ≡ Some q → 999 < q.priority
 
 -- every table is orderly
 abbrev pub TablesAreOrderly : Type 0

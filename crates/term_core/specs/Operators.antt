@@ -1,7 +1,7 @@
 -- Tables of operators, and their change.
 use Rattle.std.specs.Prelude.{ℕ, ◌-◌, Bool, true, false, not, ◌&&◌, ◌||◌, ◌==◌, nat_le, ℤ, pos, negsuc, List, [], ◌∷◌, filter, Option, Some, None, if◌then◌else◌}
 use Rattle.std.specs.List.{list_any}
-use Rattle.term_core.specs.Names.{bar}
+use Rattle.term_core.specs.declared.fixed.TheConstants.{BAR}
 use Rattle.term_core.specs.declared.operators.Op.{Op}
 use Rattle.term_core.specs.declared.operators.OpKind.{OpKind}
 use Rattle.term_core.specs.declared.operators.OpKind.TheVariants.{Xfx, Xfy, Yfx, Fy, Fx}
@@ -74,7 +74,7 @@ changed new ops =
 
 -- the names that no change takes: `[]`, `.`, `{}`, the comma and the bar, which are the first of all names
 abbrev pub is_reserved : ℕ → Bool
-is_reserved name = nat_le name bar
+is_reserved name = nat_le name BAR
 
 -- the changed table, but none for a reserved name and none that is torn
 abbrev pub checked_change : Definition → Operators → Option Operators

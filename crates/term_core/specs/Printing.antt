@@ -6,7 +6,7 @@ use Rattle.term_core.specs.declared.operators.Operators.{Operators}
 use Rattle.term_core.specs.declared.terms.Term.{Term}
 use Rattle.term_core.specs.declared.terms.Term.TheOpen.{Term-F, Var, Int, Atom, Node}
 use Rattle.term_core.specs.declared.terms.Term.TheFolds.{fold-Term}
-use Rattle.term_core.specs.Names.{nil, cell, braces, comma, bar}
+use Rattle.term_core.specs.declared.fixed.TheConstants.{NIL, CELL, BRACES, COMMA, BAR}
 use Rattle.term_core.specs.Characters.{is_name}
 use Rattle.term_core.specs.Operators.{prefix_of, infix_of, left_limit, right_limit}
 
@@ -87,14 +87,14 @@ module _ (names : List (List ℕ)) (ops : Operators) (quoted : Bool) where
 
   -- a name alone: `[]` and `{}` need no quotes
   abbrev pub atom_text : ℕ → List ℕ
-  atom_text a = if a == nil || a == braces then name_text names a else name_shown a
+  atom_text a = if a == NIL || a == BRACES then name_text names a else name_shown a
 
   abbrev pub atom_shown : ℕ → Shown
   atom_shown a = record {
     text = atom_text a;
     priority = 0;
     is_operator = is_some (prefix_of ops a) || is_some (infix_of ops a);
-    as_tail = if a == nil then codes "]" else after_bar (atom_text a);
+    as_tail = if a == NIL then codes "]" else after_bar (atom_text a);
   }
 
   -- a name and, in parentheses, arguments
@@ -110,7 +110,7 @@ module _ (names : List (List ℕ)) (ops : Operators) (quoted : Bool) where
 
   -- an infix operator between its arguments; the comma and the bar need no quotes
   abbrev pub infix_name : ℕ → List ℕ
-  infix_name f = if f == comma then codes "," else if f == bar then codes " | " else codes " " ++ name_shown f ++ codes " "
+  infix_name f = if f == COMMA then codes "," else if f == BAR then codes " | " else codes " " ++ name_shown f ++ codes " "
 
   -- two arguments with an infix operator between them
   abbrev pub infix_text : ℕ → Op → Shown → Shown → List ℕ
@@ -127,8 +127,8 @@ module _ (names : List (List ℕ)) (ops : Operators) (quoted : Bool) where
   two_shown f (Some o) left right = plain_shown o.priority (infix_text f o left right)
 
   abbrev pub compound_shown : ℕ → List Shown → Shown
-  compound_shown f (part ∷ []) = if f == braces then plain_shown 0 (codes "{" ++ part.text ++ codes "}") else one_shown f (prefix_of ops f) part
-  compound_shown f (left ∷ right ∷ []) = if f == cell then cell_shown left right else two_shown f (infix_of ops f) left right
+  compound_shown f (part ∷ []) = if f == BRACES then plain_shown 0 (codes "{" ++ part.text ++ codes "}") else one_shown f (prefix_of ops f) part
+  compound_shown f (left ∷ right ∷ []) = if f == CELL then cell_shown left right else two_shown f (infix_of ops f) left right
   compound_shown f parts = call_shown f parts
 
   -- a term from what is shown of its parts
@@ -152,7 +152,7 @@ module _ (names : List (List ℕ)) (ops : Operators) (quoted : Bool) where
 
 -- whether a term is a list cell
 abbrev pub is_cell : Term-F Term → Bool
-is_cell (Node f parts) = (f == cell) && (length parts == 2)
+is_cell (Node f parts) = (f == CELL) && (length parts == 2)
 is_cell other = false
 
 -- some prefix of the text was appended and nothing else

@@ -2,7 +2,7 @@
 ghost use Rattle.std.specs.Prelude.{◌≡◌, ◌++◌, ◌∷◌, [], ◌||◌, false, map, codes, decimal, nat_lt, OnOk, OnErr, MatchOption, string_bytes, flat_map};
 ghost use Rattle.std.specs.Fmt.{signed_decimal};
 ghost use Rattle.term_core.specs.declared.terms.Term.{out-Term};
-ghost use Rattle.term_core.specs.Names.{nil, cell};
+ghost use Rattle.term_core.specs.declared.fixed.TheConstants.{NIL, CELL};
 ghost use Rattle.term_core.specs.Terms.{is_atom_of};
 ghost use Rattle.term_core.specs.Operators.{left_limit, right_limit, prefix_of};
 ghost use Rattle.term_core.specs.Printing.{name_text, Printed, PrintedTail, GrewByPrefix, shown_of, at_argument, at_operand, atom_text, name_shown, infix_name, compound_shown, Shown, one_shown, call_shown, plain_shown, prefix_text, in_parens, call_text, with_commas, after_comma, is_cell};
@@ -346,7 +346,7 @@ impl Style<'_> {
 
 // The item and the tail of a list cell.
 fn list_cell(term: &Term) -> Option<(&Term, &Term)>
-    ensures { MatchOption result (is_cell (out-Term term.now) ≡ false) (λ parts. term.now ≡ Term.Node cell (parts.0.now ∷ parts.1.now ∷ [])) }
+    ensures { MatchOption result (is_cell (out-Term term.now) ≡ false) (λ parts. term.now ≡ Term.Node CELL (parts.0.now ∷ parts.1.now ∷ [])) }
 {
     match term {
         Term::Var(_) | Term::Int(_) | Term::Atom(_) => None,
@@ -364,7 +364,7 @@ fn list_cell(term: &Term) -> Option<(&Term, &Term)>
 }
 
 fn is_empty_list(term: &Term) -> bool
-    ensures { result ≡ is_atom_of nil (out-Term term.now) }
+    ensures { result ≡ is_atom_of NIL (out-Term term.now) }
 {
     match term {
         Term::Atom(name) => *name == NIL,

@@ -5,7 +5,7 @@ ghost use Rattle.term_core.specs.declared.terms.Term.{out-Term};
 ghost use Rattle.ciao_top.specs.declared.units.clauses.Body.{Body as BodyValue};
 ghost use Rattle.ciao_top.specs.declared.units.clauses.ReadClause.{ReadClause as ReadClauseValue};
 ghost use Rattle.ciao_top.specs.UserPredicates.{is_control, is_built_in, is_user, names_user_pred, is_directive_or_rule, may_be_fact};
-ghost use Rattle.term_core.specs.Names.{comma, neck};
+ghost use Rattle.term_core.specs.declared.fixed.TheConstants.{COMMA, NECK};
 ghost use Rattle.ciao_top.specs.SentenceTerms.{body_term, goals_of, IsClause};
 ghost use Rattle.ciao_top.specs.SentenceParts.{is_pair};
 
@@ -111,7 +111,7 @@ pub(crate) fn operands(term: &Term, operator: u64) -> Option<(&Term, &Term)>
 
 /// The two sides of a conjunction.
 pub(crate) fn sides(term: &Term) -> Option<(&Term, &Term)>
-    ensures { MatchOption result (is_pair comma (out-Term term.now) ≡ false) (λ pair. term.now ≡ Term.Node comma (pair.0.now ∷ pair.1.now ∷ [])) }
+    ensures { MatchOption result (is_pair COMMA (out-Term term.now) ≡ false) (λ pair. term.now ≡ Term.Node COMMA (pair.0.now ∷ pair.1.now ∷ [])) }
 {
     operands(term, COMMA)
 }
@@ -169,8 +169,8 @@ fn rule(
     head: &Term,
     body: &Term,
 ) -> Result<Option<ReadClause>, NoMemory>
-    ensures some { IfOk result (λ answer. IfSome answer (λ clause. sentence.now.term ≡ Term.Node neck (head.now ∷ body.now ∷ []) → IsClause sentence.now clause)) }
-    ensures none { IfOk result (λ answer. IfNone answer (sentence.now.term ≡ Term.Node neck (head.now ∷ body.now ∷ []) → (clause : ReadClauseValue) → IsClause sentence.now clause → ⊥)) }
+    ensures some { IfOk result (λ answer. IfSome answer (λ clause. sentence.now.term ≡ Term.Node NECK (head.now ∷ body.now ∷ []) → IsClause sentence.now clause)) }
+    ensures none { IfOk result (λ answer. IfNone answer (sentence.now.term ≡ Term.Node NECK (head.now ∷ body.now ∷ []) → (clause : ReadClauseValue) → IsClause sentence.now clause → ⊥)) }
 {
     if !names_user_pred(head) {
         return Ok(None);

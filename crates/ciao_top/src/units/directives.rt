@@ -1,7 +1,7 @@
 // The module directive, and changes of operators.
 ghost use Rattle.std.specs.Prelude.{◌≡◌, ◌↔◌, ◌∷◌, [], false, List, slice_get, Some, IsTrue, IfOk, IfSome, IfNone, MatchOption};
 ghost use Rattle.term_core.specs.declared.terms.Term.{out-Term};
-ghost use Rattle.term_core.specs.Names.{nil};
+ghost use Rattle.term_core.specs.declared.fixed.TheConstants.{NIL};
 ghost use Rattle.term_core.specs.Terms.{is_atom_of};
 ghost use Rattle.ciao_top.specs.declared.units.keys.Key.{Key as KeyValue};
 ghost use Rattle.ciao_top.specs.SentenceTerms.{directive_term, export_term, IsModuleName, IsModule, NamesModule, ChangesOperators};
@@ -123,7 +123,7 @@ fn export_of(term: &Term) -> Option<Key>
 }
 
 fn is_nil(term: &Term) -> bool
-    ensures { result ≡ is_atom_of nil (out-Term term.now) }
+    ensures { result ≡ is_atom_of NIL (out-Term term.now) }
 {
     match term {
         Term::Atom(name) => *name == NIL,
