@@ -1,5 +1,8 @@
+pub mod Copies
 pub mod Counting
 pub mod FixedNames
+pub mod KindLaws
+pub mod NameLaws
 pub mod Occurrences
 pub mod OperatorChanges
 pub mod OperatorLists
@@ -7,12 +10,15 @@ pub mod OperatorTables
 pub mod OperatorTies
 pub mod OperatorTorn
 pub mod QuotingLemmas
+pub mod RangeLaws
 pub mod ShortLists
+pub mod SizeLaws
 pub mod Sizes
+pub mod Solving
 pub mod TermFolds
 pub mod TermLaws
 pub mod TextLemmas
-pub mod Solving
 pub mod Turns
 pub mod UnifyEnds
 pub mod VarLemmas
+pub mod VariantLaws

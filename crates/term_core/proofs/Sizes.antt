@@ -12,21 +12,9 @@ use Rattle.term_core.specs.declared.terms.Term.TheVariants.{rolls-Var, rolls-Int
 use Rattle.term_core.specs.Terms.{occurs, occurs_step}
 use Rattle.term_core.proofs.TermFolds.{fold-Node, fold-Int, fold-Atom}
 use Rattle.term_core.proofs.Occurrences.{occurs-Node, occurs-Var}
+use Rattle.term_core.specs.Sizes.{total, size, size_step}
 use Rattle.term_core.specs.Unify.{occurs_in, pairs, Move, Becomes, Binds, Clashes, Cycles, move_at, move}
 use Rattle.term_core.specs.declared.equations.Equation.{Equation}
-
-abbrev pub total : List ℕ → ℕ
-total [] = 0
-total (n ∷ ns) = n + total ns
-
-abbrev pub size_step : Term-F ℕ → ℕ
-size_step (Var v) = 1
-size_step (Int n) = 1
-size_step (Atom a) = 1
-size_step (Node f ns) = total ns + 1
-
-abbrev pub size : Term → ℕ
-size = fold-Term ℕ size_step
 
 size_step_pos : (x : Term-F ℕ) → 0 < size_step x
 size_step_pos (Var v) = omega arith

@@ -19,7 +19,8 @@ use Rattle.term_core.specs.Solutions.{Solves, IsRight, HasOneOutcome}
 use Rattle.term_core.proofs.TermFolds.{fold-Node, fold-Int, fold-Atom, ind_terms}
 use Rattle.term_core.proofs.TermLaws.{instance-Var, instance-Node, instance-instance, replace-absent}
 use Rattle.term_core.proofs.Occurrences.{occurs-Node, occurs-Var}
-use Rattle.term_core.proofs.Sizes.{total, size, size_step, move_binds}
+use Rattle.term_core.specs.Sizes.{total, size, size_step}
+use Rattle.term_core.proofs.Sizes.{move_binds}
 use Rattle.term_core.proofs.UnifyEnds.{stage_ends}
 
 same_number : (m n : ℕ) → (m == n) ≡ true → m ≡ n

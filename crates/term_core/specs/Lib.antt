@@ -3,7 +3,10 @@ pub mod Names
 pub mod OperatorLaws
 pub mod Operators
 pub mod Printing
+pub mod Ranges
+pub mod Sizes
 pub mod Solutions
 pub mod Standard
 pub mod Terms
 pub mod Unify
+pub mod Variants

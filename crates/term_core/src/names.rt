@@ -71,6 +71,16 @@ impl Names {
         Ok(Names { alloc, texts })
     }
 
+    /// The same names.
+    pub fn copy(&self) -> Result<Names, NoMemory>
+        ensures { IfOk result (λ names. names ≡ self.now) }
+    {
+        Ok(Names {
+            alloc: self.alloc,
+            texts: self.texts.clone()?,
+        })
+    }
+
     // Where memory is asked for.
     pub(crate) fn allocator(&self) -> Global {
         self.alloc

@@ -95,6 +95,20 @@ impl OpTable {
         Ok(OpTable { alloc, operators })
     }
 
+    /// An equal table.
+    pub fn copy(&self) -> Result<OpTable, NoMemory>
+        ensures { IfOk result (λ ops. ops ≡ self.now) }
+    {
+        let operators = Operators {
+            prefixes: Items::from_slice(self.alloc, self.operators.prefixes.as_slice())?,
+            infixes: Items::from_slice(self.alloc, self.operators.infixes.as_slice())?,
+        };
+        Ok(OpTable {
+            alloc: self.alloc,
+            operators,
+        })
+    }
+
     /// Makes a name an operator, in place of what it was of that sort, or none where the priority is 0.
     pub fn add(&mut self, priority: i64, kind: OpKind, name: u64) -> Result<(), OpFault>
         ensures ok { OnOk result (added priority kind name self.old ≡ Some self.new) }

@@ -1,19 +1,37 @@
-// Each call that allocates, with ample memory, and its answers.
-use crate::{Names, NoMemory, Op, OpFault, OpKind, OpTable, Term, copy, depth, print_term, vars};
+// Each call that allocates, with ample memory, and its answers: tables, with one function for each.
+use crate::{
+    Names, NoMemory, Op, OpFault, OpKind, OpTable, Term, copy, depth, discard, print_term, vars,
+};
 use sqlite_items::Items;
 use std::alloc::Global;
 use std::test::Fail;
 
+// Texts and their numbers.
+const PLACES: [(&str, u64); 5] = [
+    ("append", 75),
+    ("is", 39),
+    ("append", 75),
+    ("[]", 0),
+    ("mod", 53),
+];
+
+// The first text that gets another number.
+fn misplaced<'a>(names: &mut Names, rows: &[(&'a str, u64)]) -> Result<Option<&'a str>, NoMemory> {
+    for row in rows {
+        if names.intern(row.0)? != row.1 {
+            return Ok(Some(row.0));
+        }
+    }
+    Ok(None)
+}
+
 #[test]
 fn names_have_their_places(rt: HostRuntime) -> Result<(), Fail> {
     let mut names = Names::new(rt.alloc())?;
-    for (text, place) in [("append", 75), ("is", 39), ("append", 75), ("[]", 0)] {
-        assert_eq!(rt; names.intern(text)?, place);
-        assert_eq!(rt; names.find(text), Some(place));
-    }
-    assert_eq!(rt; names.find("mod"), Some(53));
-    assert!(rt; 75 < names.len());
-    assert_eq!(rt; names.text(75), "append");
+    assert_eq!(rt; misplaced(&mut names, &PLACES)?, None);
+    let copied = names.copy()?;
+    assert_eq!(rt; copied.find("append"), Some(75));
+    assert_eq!(rt; copied.len(), 76);
     Ok(())
 }
 
@@ -29,23 +47,42 @@ fn sum_term(alloc: Global) -> Result<Term, NoMemory> {
     Ok(Term::Node(47, parts))
 }
 
+// The text of a term with the standard operators.
+fn text_of(alloc: Global, term: &Term, quoted: bool) -> Result<String, NoMemory> {
+    let names = Names::new(alloc)?;
+    let ops = OpTable::standard(alloc)?;
+    let mut text = String::new(alloc);
+    print_term(&names, &ops, term, quoted, &mut text)?;
+    Ok(text)
+}
+
 #[test]
 fn terms_are_copied(rt: HostRuntime) -> Result<(), Fail> {
     let alloc = rt.alloc();
-    let names = Names::new(alloc)?;
-    let ops = OpTable::standard(alloc)?;
     let term = copy(alloc, &sum_term(alloc)?)?;
     assert_eq!(rt; depth(&term), 3);
     assert_eq!(rt; vars(alloc, &term)?.as_slice(), [7, 3].as_slice());
-    for (term, quoted, text) in [
-        (&term, false, "+(_7,-12,_7 * _3)"),
-        (&Term::Atom(75), false, ""),
-        (&Term::Atom(75), true, "''"),
-    ] {
-        let mut out = String::new(alloc);
-        print_term(&names, &ops, term, quoted, &mut out)?;
-        assert_eq!(rt; out.as_str(), text);
+    assert_eq!(rt; text_of(alloc, &term, false)?.as_str(), "+(_7,-12,_7 * _3)");
+    assert_eq!(rt; text_of(alloc, &Term::Atom(75), false)?.as_str(), "");
+    assert_eq!(rt; text_of(alloc, &Term::Atom(75), true)?.as_str(), "''");
+    Ok(())
+}
+
+// f(f(f(..,[]),[]),[]), so many deep.
+fn deep_term(alloc: Global, depth: u64) -> Result<Term, NoMemory> {
+    let mut term = Term::Atom(0);
+    for _ in 0..depth {
+        let mut parts = Items::new(alloc);
+        parts.push(term)?;
+        parts.push(Term::Atom(0))?;
+        term = Term::Node(1, parts);
     }
+    Ok(term)
+}
+
+#[test]
+fn deep_terms_are_discarded(rt: HostRuntime) -> Result<(), Fail> {
+    discard(deep_term(rt.alloc(), 1_000_000)?);
     Ok(())
 }
 
@@ -100,128 +137,202 @@ fn printed(alloc: Global, ops: &OpTable, quoted: bool, words: &str) -> Result<St
     Ok(text)
 }
 
+// What is printed of terms in place of the texts that they should have.
+fn misprinted(alloc: Global, ops: &OpTable, rows: &[(&str, &str)]) -> Result<String, NoMemory> {
+    let mut wrong = String::new(alloc);
+    for row in rows {
+        let text = printed(alloc, ops, true, row.0)?;
+        if text.as_str() != row.1 {
+            wrong.push_str(text.as_str())?;
+        }
+    }
+    Ok(wrong)
+}
+
+// Terms by their words, and their texts.
+const TERMS: [(&str, &str); 41] = [
+    ("1 -/1", "- 1"),
+    ("-1", "-1"),
+    ("1 -1 -/2", "1 - -1"),
+    ("a b -/2 c -/2", "a - b - c"),
+    ("a b c -/2 -/2", "a - (b - c)"),
+    ("a b ^/2 c ^/2", "(a ^ b) ^ c"),
+    ("a b c ^/2 ^/2", "a ^ b ^ c"),
+    ("a b =/2 c =/2", "(a = b) = c"),
+    ("a b c =/2 =/2", "a = (b = c)"),
+    ("a b =/2 \\+/1", "\\+ a = b"),
+    ("a -/1 -/1", "- - a"),
+    ("a ~/1 ~/1", "~ (~ a)"),
+    ("a -/1 b -/2", "- a - b"),
+    ("a b -/2 -/1", "- (a - b)"),
+    ("a b ->/2 c ;/2", "a -> b ; c"),
+    ("a b ;/2 c ->/2", "(a ; b) -> c"),
+    ("- -/1", "- (-)"),
+    ("- a =/2", "(-) = a"),
+    ("a , =/2", "a = (',')"),
+    ("- - - ./2 f/2", "f(-,[-|-])"),
+    ("a b c ,/2 :-/2 f/1", "f((a :- b,c))"),
+    ("a b c ,/2 :-/2 [] ./2", "[(a :- b,c)]"),
+    ("x a b c ,/2 :-/2 ./2", "[x|(a :- b,c)]"),
+    ("a b :-/2 {}/1", "{a :- b}"),
+    ("a :-/1", ":- a"),
+    ("a pred/1", "pred(a)"),
+    ("a pred/1 check/1", "check(pred(a))"),
+    ("a b :=/2", "a := b"),
+    ("a b :=/2 pred/1", "pred((a := b))"),
+    ("a b |/2", "a | b"),
+    ("a b ,/2", "a,b"),
+    ("a b ,/2 c ,/2", "(a,b),c"),
+    ("a b c ,/2 ,/2", "a,b,c"),
+    ("a b ,/2 f/1", "f((a,b))"),
+    ("a ,/1 |/1", "'|'(','(a))"),
+    ("a []/1", "'[]'(a)"),
+    ("a b {}/2", "'{}'(a,b)"),
+    ("a ./1", "'.'(a)"),
+    ("a is/1", "is(a)"),
+    ("[] true ./2 [] [] ./2 ./2", "[[[]|true],[]]"),
+    ("a X -/2 B_c b/2", "b(a - 'X','B_c')"),
+];
+
 #[test]
 fn terms_are_printed(rt: HostRuntime) -> Result<(), Fail> {
-    let alloc = rt.alloc();
-    let ops = OpTable::standard(alloc)?;
-    for (words, text) in [
-        ("1 -/1", "- 1"),
-        ("-1", "-1"),
-        ("1 -1 -/2", "1 - -1"),
-        ("a b -/2 c -/2", "a - b - c"),
-        ("a b c -/2 -/2", "a - (b - c)"),
-        ("a b ^/2 c ^/2", "(a ^ b) ^ c"),
-        ("a b c ^/2 ^/2", "a ^ b ^ c"),
-        ("a b =/2 c =/2", "(a = b) = c"),
-        ("a b c =/2 =/2", "a = (b = c)"),
-        ("a b =/2 \\+/1", "\\+ a = b"),
-        ("a -/1 -/1", "- - a"),
-        ("a ~/1 ~/1", "~ (~ a)"),
-        ("a -/1 b -/2", "- a - b"),
-        ("a b -/2 -/1", "- (a - b)"),
-        ("a b ->/2 c ;/2", "a -> b ; c"),
-        ("a b ;/2 c ->/2", "(a ; b) -> c"),
-        ("- -/1", "- (-)"),
-        ("- a =/2", "(-) = a"),
-        ("a , =/2", "a = (',')"),
-        ("- - - ./2 f/2", "f(-,[-|-])"),
-        ("a b c ,/2 :-/2 f/1", "f((a :- b,c))"),
-        ("a b c ,/2 :-/2 [] ./2", "[(a :- b,c)]"),
-        ("x a b c ,/2 :-/2 ./2", "[x|(a :- b,c)]"),
-        ("a b :-/2 {}/1", "{a :- b}"),
-        ("a :-/1", ":- a"),
-        ("a pred/1", "pred(a)"),
-        ("a pred/1 check/1", "check(pred(a))"),
-        ("a b :=/2", "a := b"),
-        ("a b :=/2 pred/1", "pred((a := b))"),
-        ("a b |/2", "a | b"),
-        ("a b ,/2", "a,b"),
-        ("a b ,/2 c ,/2", "(a,b),c"),
-        ("a b c ,/2 ,/2", "a,b,c"),
-        ("a b ,/2 f/1", "f((a,b))"),
-        ("a ,/1 |/1", "'|'(','(a))"),
-        ("a []/1", "'[]'(a)"),
-        ("a b {}/2", "'{}'(a,b)"),
-        ("a ./1", "'.'(a)"),
-        ("a is/1", "is(a)"),
-        ("[] true ./2 [] [] ./2 ./2", "[[[]|true],[]]"),
-        ("a X -/2 B_c b/2", "b(a - 'X','B_c')"),
-    ] {
-        assert_eq!(rt; printed(alloc, &ops, true, words)?.as_str(), text);
-    }
+    let ops = OpTable::standard(rt.alloc())?;
+    assert_eq!(rt; misprinted(rt.alloc(), &ops, &TERMS)?.as_str(), "");
     Ok(())
 }
 
 // The text of an atom of this name.
-fn printed_atom(
-    alloc: Global,
-    ops: &OpTable,
-    quoted: bool,
-    name: &str,
-) -> Result<String, NoMemory> {
+fn printed_atom(alloc: Global, name: &str, quoted: bool) -> Result<String, NoMemory> {
     let mut names = Names::new(alloc)?;
+    let ops = OpTable::standard(alloc)?;
     let atom = Term::Atom(names.intern(name)?);
     let mut text = String::new(alloc);
-    print_term(&names, ops, &atom, quoted, &mut text)?;
+    print_term(&names, &ops, &atom, quoted, &mut text)?;
     Ok(text)
 }
 
+// Whether an atom of this name is printed so with quotes, and as its name without.
+fn is_quoted_so(alloc: Global, name: &str, quoted: &str) -> Result<bool, NoMemory> {
+    let with = printed_atom(alloc, name, true)?;
+    let without = printed_atom(alloc, name, false)?;
+    Ok(with.as_str() == quoted && without.as_str() == name)
+}
+
+// The first name that is printed otherwise.
+fn misquoted<'a>(alloc: Global, rows: &[(&'a str, &str)]) -> Result<Option<&'a str>, NoMemory> {
+    for row in rows {
+        if !is_quoted_so(alloc, row.0, row.1)? {
+            return Ok(Some(row.0));
+        }
+    }
+    Ok(None)
+}
+
+// Names, and what they are with quotes.
+const QUOTED: [(&str, &str); 30] = [
+    ("[]", "[]"),
+    ("{}", "{}"),
+    ("!", "!"),
+    (";", ";"),
+    ("a", "a"),
+    ("aB_1", "aB_1"),
+    ("+++", "+++"),
+    ("..", ".."),
+    ("*/", "*/"),
+    ("\\", "\\"),
+    ("", "''"),
+    (".", "'.'"),
+    ("/*", "'/*'"),
+    ("/*+", "'/*+'"),
+    (",", "','"),
+    ("|", "'|'"),
+    ("!;", "'!;'"),
+    ("a b", "'a b'"),
+    ("a+", "'a+'"),
+    ("A", "'A'"),
+    ("_a", "'_a'"),
+    ("1a", "'1a'"),
+    ("[", "'['"),
+    ("é", "'é'"),
+    ("añ\n漢", "'añ\\n漢'"),
+    ("\n", "'\\n'"),
+    ("\t", "'\\t'"),
+    ("\r", "'\\r'"),
+    ("a\\b", "'a\\\\b'"),
+    ("it's", "'it\\'s'"),
+];
+
 #[test]
 fn names_are_quoted_where_they_need_it(rt: HostRuntime) -> Result<(), Fail> {
-    let alloc = rt.alloc();
-    let ops = OpTable::standard(alloc)?;
-    for (name, quoted) in [
-        ("[]", "[]"),
-        ("{}", "{}"),
-        ("!", "!"),
-        (";", ";"),
-        ("a", "a"),
-        ("aB_1", "aB_1"),
-        ("+++", "+++"),
-        ("..", ".."),
-        ("*/", "*/"),
-        ("\\", "\\"),
-        ("", "''"),
-        (".", "'.'"),
-        ("/*", "'/*'"),
-        ("/*+", "'/*+'"),
-        (",", "','"),
-        ("|", "'|'"),
-        ("!;", "'!;'"),
-        ("a b", "'a b'"),
-        ("a+", "'a+'"),
-        ("A", "'A'"),
-        ("_a", "'_a'"),
-        ("1a", "'1a'"),
-        ("[", "'['"),
-        ("é", "'é'"),
-        ("añ\n漢", "'añ\\n漢'"),
-        ("\n", "'\\n'"),
-        ("\t", "'\\t'"),
-        ("\r", "'\\r'"),
-        ("a\\b", "'a\\\\b'"),
-        ("it's", "'it\\'s'"),
-    ] {
-        assert_eq!(rt; printed_atom(alloc, &ops, true, name)?.as_str(), quoted);
-        assert_eq!(rt; printed_atom(alloc, &ops, false, name)?.as_str(), name);
-    }
+    assert_eq!(rt; misquoted(rt.alloc(), &QUOTED)?, None);
     Ok(())
+}
+
+// The first name that is new, and the minus.
+const NEW: u64 = 75;
+
+const MINUS: u64 = 48;
+
+// An operator that is added, and then a term by its words with its text.
+struct Added {
+    priority: i64,
+    kind: OpKind,
+    name: u64,
+    words: &'static str,
+    text: &'static str,
+}
+
+const ADDED: [Added; 4] = [
+    Added {
+        priority: 700,
+        kind: OpKind::Xfx,
+        name: NEW,
+        words: "1 -/1 2 Is/2",
+        text: "- 1 'Is' 2",
+    },
+    Added {
+        priority: 700,
+        kind: OpKind::Xfx,
+        name: NEW,
+        words: "Is 2 Is/2",
+        text: "('Is') 'Is' 2",
+    },
+    Added {
+        priority: 0,
+        kind: OpKind::Fy,
+        name: MINUS,
+        words: "- -/1 1 -/2",
+        text: "-(-) - 1",
+    },
+    Added {
+        priority: 0,
+        kind: OpKind::Yfx,
+        name: MINUS,
+        words: "- -/1 1 -/2",
+        text: "-(-(-),1)",
+    },
+];
+
+// What is printed in place of these texts, each after its operator is added.
+fn misprinted_after(alloc: Global, ops: &mut OpTable, rows: &[Added]) -> Result<String, NoMemory> {
+    let mut wrong = String::new(alloc);
+    for row in rows {
+        let answer = ops.add(row.priority, row.kind, row.name);
+        let text = printed(alloc, ops, true, row.words)?;
+        if answer.is_err() || text.as_str() != row.text {
+            wrong.push_str(text.as_str())?;
+        }
+    }
+    Ok(wrong)
 }
 
 #[test]
 fn other_operators_are_printed(rt: HostRuntime) -> Result<(), Fail> {
-    let alloc = rt.alloc();
-    let mut ops = OpTable::standard(alloc)?;
-    // The first name that is new has the number 75, and 48 is `-`.
-    for (priority, kind, name, words, text) in [
-        (700, OpKind::Xfx, 75, "1 -/1 2 Is/2", "- 1 'Is' 2"),
-        (700, OpKind::Xfx, 75, "Is 2 Is/2", "('Is') 'Is' 2"),
-        (0, OpKind::Fy, 48, "- -/1 1 -/2", "-(-) - 1"),
-        (0, OpKind::Yfx, 48, "- -/1 1 -/2", "-(-(-),1)"),
-    ] {
-        assert_eq!(rt; ops.add(priority, kind, name), Ok(()));
-        assert_eq!(rt; printed(alloc, &ops, true, words)?.as_str(), text);
-    }
+    let mut ops = OpTable::standard(rt.alloc())?.copy()?;
+    assert_eq!(rt;
+        misprinted_after(rt.alloc(), &mut ops, &ADDED)?.as_str(),
+        ""
+    );
     Ok(())
 }
 
@@ -231,6 +342,34 @@ fn is_operator(names: &Names, ops: &OpTable, text: &str, op: Op) -> bool {
         Some(name) => ops.prefix(name) == Some(op) || ops.infix(name) == Some(op),
         None => false,
     }
+}
+
+// Whether each of the texts is this operator.
+fn are_operators(names: &Names, ops: &OpTable, texts: &str, op: Op) -> bool {
+    for text in texts.split(' ') {
+        if !is_operator(names, ops, text, op) {
+            return false;
+        }
+    }
+    true
+}
+
+// The first texts that are not what they should be.
+fn other_operators<'a>(
+    names: &Names,
+    ops: &OpTable,
+    rows: &[(u64, OpKind, &'a str)],
+) -> Option<&'a str> {
+    for row in rows {
+        let op = Op {
+            priority: row.0,
+            kind: row.1,
+        };
+        if !are_operators(names, ops, row.2, op) {
+            return Some(row.2);
+        }
+    }
+    None
 }
 
 // How many names are prefix operators, and how many are infix operators.
@@ -248,159 +387,140 @@ fn counts(names: &Names, ops: &OpTable) -> (u64, u64) {
     (prefixes, infixes)
 }
 
+// The operators from the start.
+const STANDARD: [(u64, OpKind, &str); 20] = [
+    (1200, OpKind::Xfx, ":- -->"),
+    (1200, OpKind::Fx, ":- ?-"),
+    (1150, OpKind::Xfx, ":="),
+    (1150, OpKind::Fx, "pred calls success comp entry regtype"),
+    (1150, OpKind::Fy, "check trust true checked false"),
+    (1100, OpKind::Xfy, "; |"),
+    (1050, OpKind::Xfy, "->"),
+    (1050, OpKind::Xfx, "?"),
+    (1000, OpKind::Xfy, ","),
+    (980, OpKind::Xfx, "#"),
+    (975, OpKind::Xfx, "=>"),
+    (900, OpKind::Fy, "\\+"),
+    (
+        700,
+        OpKind::Xfx,
+        "= \\= == \\== @< @> @=< @>= =.. is =:= =\\= < > =< >=",
+    ),
+    (550, OpKind::Xfx, ":"),
+    (500, OpKind::Yfx, "+ -"),
+    (400, OpKind::Yfx, "* / // rem mod"),
+    (200, OpKind::Xfx, "**"),
+    (200, OpKind::Xfy, "^"),
+    (200, OpKind::Fy, "-"),
+    (50, OpKind::Fx, "~"),
+];
+
 #[test]
 fn standard_operators_are_in_force(rt: HostRuntime) -> Result<(), Fail> {
     let names = Names::new(rt.alloc())?;
     let ops = OpTable::standard(rt.alloc())?;
-    for (priority, kind, texts) in [
-        (1200, OpKind::Xfx, ":- -->"),
-        (1200, OpKind::Fx, ":- ?-"),
-        (1150, OpKind::Xfx, ":="),
-        (1150, OpKind::Fx, "pred calls success comp entry regtype"),
-        (1150, OpKind::Fy, "check trust true checked false"),
-        (1100, OpKind::Xfy, "; |"),
-        (1050, OpKind::Xfy, "->"),
-        (1050, OpKind::Xfx, "?"),
-        (1000, OpKind::Xfy, ","),
-        (980, OpKind::Xfx, "#"),
-        (975, OpKind::Xfx, "=>"),
-        (900, OpKind::Fy, "\\+"),
-        (
-            700,
-            OpKind::Xfx,
-            "= \\= == \\== @< @> @=< @>= =.. is =:= =\\= < > =< >=",
-        ),
-        (550, OpKind::Xfx, ":"),
-        (500, OpKind::Yfx, "+ -"),
-        (400, OpKind::Yfx, "* / // rem mod"),
-        (200, OpKind::Xfx, "**"),
-        (200, OpKind::Xfy, "^"),
-        (200, OpKind::Fy, "-"),
-        (50, OpKind::Fx, "~"),
-    ] {
-        for text in texts.split(' ') {
-            assert!(rt; is_operator(&names, &ops, text, Op { priority, kind }));
-        }
-    }
+    assert_eq!(rt; other_operators(&names, &ops, &STANDARD), None);
     assert_eq!(rt; counts(&names, &ops), (16, 36));
     Ok(())
+}
+
+// What a name is after a change.
+const XFX_700: Option<Op> = Some(Op {
+    priority: 700,
+    kind: OpKind::Xfx,
+});
+
+const XFY_1200: Option<Op> = Some(Op {
+    priority: 1200,
+    kind: OpKind::Xfy,
+});
+
+const FX_1: Option<Op> = Some(Op {
+    priority: 1,
+    kind: OpKind::Fx,
+});
+
+const FY_200: Option<Op> = Some(Op {
+    priority: 200,
+    kind: OpKind::Fy,
+});
+
+const YFX_500: Option<Op> = Some(Op {
+    priority: 500,
+    kind: OpKind::Yfx,
+});
+
+const XFY_1000: Option<Op> = Some(Op {
+    priority: 1000,
+    kind: OpKind::Xfy,
+});
+
+const XFY_1100: Option<Op> = Some(Op {
+    priority: 1100,
+    kind: OpKind::Xfy,
+});
+
+const XFY_500: Option<Op> = Some(Op {
+    priority: 500,
+    kind: OpKind::Xfy,
+});
+
+const FY_500: Option<Op> = Some(Op {
+    priority: 500,
+    kind: OpKind::Fy,
+});
+
+// A change, whether it is refused, and what the name is then before its argument and between two.
+type Change = (i64, OpKind, u64, bool, Option<Op>, Option<Op>);
+
+const CHANGES: [Change; 23] = [
+    // A priority has no xfy and no fy operator beside the yfx ones + and -, and no yfx one beside \+ and ^.
+    (500, OpKind::Xfy, NEW, true, None, None),
+    (500, OpKind::Fy, NEW, true, None, None),
+    (900, OpKind::Yfx, NEW, true, None, None),
+    (200, OpKind::Yfx, MINUS, true, FY_200, YFX_500),
+    (-1, OpKind::Xfx, NEW, true, None, None),
+    (1201, OpKind::Xfx, NEW, true, None, None),
+    (700, OpKind::Xfx, NEW, false, None, XFX_700),
+    (1200, OpKind::Xfy, NEW, false, None, XFY_1200),
+    (1, OpKind::Fx, NEW, false, FX_1, XFY_1200),
+    (500, OpKind::Fy, NEW, true, FX_1, XFY_1200),
+    (0, OpKind::Yfx, NEW, false, FX_1, None),
+    (0, OpKind::Fy, NEW, false, None, None),
+    (0, OpKind::Fy, NEW, false, None, None),
+    (700, OpKind::Xfx, 0, true, None, None),
+    (700, OpKind::Xfx, 1, true, None, None),
+    (0, OpKind::Fx, 2, true, None, None),
+    (1000, OpKind::Xfy, 3, true, None, XFY_1000),
+    (0, OpKind::Xfy, 4, true, None, XFY_1100),
+    // Without + and - the priority 500 is free.
+    (0, OpKind::Xfx, 47, false, None, None),
+    (0, OpKind::Xfx, MINUS, false, FY_200, None),
+    (500, OpKind::Xfy, MINUS, false, FY_200, XFY_500),
+    (500, OpKind::Fy, NEW, false, FY_500, None),
+    (500, OpKind::Yfx, NEW, true, FY_500, None),
+];
+
+// Whether a change goes as its row says.
+fn changes_so(ops: &mut OpTable, row: &Change) -> bool {
+    let answer = ops.add(row.0, row.1, row.2);
+    let refused = answer == Err(OpFault::OpRefused);
+    refused == row.3 && ops.prefix(row.2) == row.4 && ops.infix(row.2) == row.5
+}
+
+// The place of the first change that goes otherwise.
+fn other_change(ops: &mut OpTable, rows: &[Change]) -> Option<usize> {
+    for (at, row) in rows.iter().enumerate() {
+        if !changes_so(ops, row) {
+            return Some(at);
+        }
+    }
+    None
 }
 
 #[test]
 fn operators_change(rt: HostRuntime) -> Result<(), Fail> {
     let mut ops = OpTable::standard(rt.alloc())?;
-    let minus = (
-        Some(Op {
-            priority: 200,
-            kind: OpKind::Fy,
-        }),
-        Some(Op {
-            priority: 500,
-            kind: OpKind::Yfx,
-        }),
-    );
-    let infix = Some(Op {
-        priority: 700,
-        kind: OpKind::Xfx,
-    });
-    let loose = Some(Op {
-        priority: 1200,
-        kind: OpKind::Xfy,
-    });
-    let prefix = Some(Op {
-        priority: 1,
-        kind: OpKind::Fx,
-    });
-    let refused = Err(OpFault::OpRefused);
-    for (priority, kind, name, answer, found) in [
-        // A priority has no xfy and no fy operator beside the yfx ones + and -, and no yfx one beside \+ and ^.
-        (500, OpKind::Xfy, 75, refused, (None, None)),
-        (500, OpKind::Fy, 75, refused, (None, None)),
-        (900, OpKind::Yfx, 75, refused, (None, None)),
-        (200, OpKind::Yfx, 48, refused, minus),
-        (-1, OpKind::Xfx, 75, refused, (None, None)),
-        (1201, OpKind::Xfx, 75, refused, (None, None)),
-        (700, OpKind::Xfx, 75, Ok(()), (None, infix)),
-        (1200, OpKind::Xfy, 75, Ok(()), (None, loose)),
-        (1, OpKind::Fx, 75, Ok(()), (prefix, loose)),
-        (500, OpKind::Fy, 75, refused, (prefix, loose)),
-        (0, OpKind::Yfx, 75, Ok(()), (prefix, None)),
-        (0, OpKind::Fy, 75, Ok(()), (None, None)),
-        (0, OpKind::Fy, 75, Ok(()), (None, None)),
-        (700, OpKind::Xfx, 0, refused, (None, None)),
-        (700, OpKind::Xfx, 1, refused, (None, None)),
-        (0, OpKind::Fx, 2, refused, (None, None)),
-        (
-            1000,
-            OpKind::Xfy,
-            3,
-            refused,
-            (
-                None,
-                Some(Op {
-                    priority: 1000,
-                    kind: OpKind::Xfy,
-                }),
-            ),
-        ),
-        (
-            0,
-            OpKind::Xfy,
-            4,
-            refused,
-            (
-                None,
-                Some(Op {
-                    priority: 1100,
-                    kind: OpKind::Xfy,
-                }),
-            ),
-        ),
-        // Without + and - the priority 500 is free.
-        (0, OpKind::Xfx, 47, Ok(()), (None, None)),
-        (0, OpKind::Xfx, 48, Ok(()), (minus.0, None)),
-        (
-            500,
-            OpKind::Xfy,
-            48,
-            Ok(()),
-            (
-                minus.0,
-                Some(Op {
-                    priority: 500,
-                    kind: OpKind::Xfy,
-                }),
-            ),
-        ),
-        (
-            500,
-            OpKind::Fy,
-            75,
-            Ok(()),
-            (
-                Some(Op {
-                    priority: 500,
-                    kind: OpKind::Fy,
-                }),
-                None,
-            ),
-        ),
-        (
-            500,
-            OpKind::Yfx,
-            75,
-            refused,
-            (
-                Some(Op {
-                    priority: 500,
-                    kind: OpKind::Fy,
-                }),
-                None,
-            ),
-        ),
-    ] {
-        assert_eq!(rt; ops.add(priority, kind, name), answer);
-        assert_eq!(rt; (ops.prefix(name), ops.infix(name)), found);
-    }
+    assert_eq!(rt; other_change(&mut ops, &CHANGES), None);
     Ok(())
 }

@@ -1,0 +1,18 @@
+// Laws of terms: their ranges, and terms that differ in the names of variables alone.
+ghost use Rattle.term_core.specs.Ranges.{RangesStay};
+ghost use Rattle.term_core.specs.Variants.{VariantsEndAlike, VariantsSolvedAlike};
+
+/// Terms in range stay so where names and variables come to be more, and when terms in range are put for their variables.
+pub fn ranges_law()
+    ensures { RangesStay }
+{}
+
+/// Equations that differ in the names of their variables alone end in the same kind of outcome.
+pub fn unified_variants_law()
+    ensures { VariantsEndAlike }
+{}
+
+/// What two most general solutions of such equations give differs in the names of variables alone.
+pub fn variants_law()
+    ensures { VariantsSolvedAlike }
+{}
