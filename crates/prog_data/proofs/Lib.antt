@@ -3,3 +3,4 @@ pub mod GoalFolds
 pub mod Leaves
 pub mod MembershipLaws
 mod Persistence
+mod RangeLaws

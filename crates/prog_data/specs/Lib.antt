@@ -8,6 +8,6 @@ pub mod Values
 pub mod Laws
 pub mod Refusals
 pub mod Control
-pub mod TermRanges
 pub mod Ranges
+pub mod RangeLaws
 pub mod Programs

@@ -1,8 +1,10 @@
 -- Which terms, goals, clauses and conditions are in range of a program.
-use Rattle.std.specs.Prelude.{ℕ, ◌==◌, nat_lt, Bool, true, false, ◌&&◌, List, [], ◌∷◌, length}
+use Rattle.std.specs.Prelude.{ℕ, ◌==◌, nat_lt, nat_le, Bool, true, false, ◌&&◌, List, [], ◌∷◌, length}
 use Rattle.std.specs.List.{list_all}
 use Rattle.term_core.specs.declared.terms.Term.{Term, out-Term}
 use Rattle.term_core.specs.declared.terms.Term.TheOpen as layer
+use Rattle.term_core.specs.Ranges.{has_names}
+use Rattle.term_core.specs.Terms.{above}
 use Rattle.prog_data.specs.declared.goals.Goal.{Goal}
 use Rattle.prog_data.specs.declared.goals.Goal.TheOpen.{Goal-F, Call, Builtin, Conj, Disj, IfElse, Not, Exit}
 use Rattle.prog_data.specs.declared.goals.Goal.TheFolds.{fold-Goal}
@@ -16,7 +18,6 @@ use Rattle.prog_data.specs.declared.programs.Clause.{Clause}
 use Rattle.prog_data.specs.declared.programs.Place.{Place}
 use Rattle.prog_data.specs.declared.programs.Program.{Program}
 use Rattle.prog_data.specs.Goals.{pred_of, without_exit}
-use Rattle.prog_data.specs.TermRanges.{is_within}
 
 -- whether a number is that of a name of the program
 abbrev pub is_name_of : Program → ℕ → Bool
@@ -34,9 +35,9 @@ is_pred_of program p = nat_lt p (length program.preds)
 abbrev pub is_cond_of : Program → ℕ → Bool
 is_cond_of program c = nat_lt c (length program.conds)
 
--- whether the names in a term are the program's, and its variables are below a number
+-- whether a term is in range: the names in it are the program's, and its variables are below a number
 abbrev pub is_term_of : Program → ℕ → Term → Bool
-is_term_of program vars = is_within (length program.names) vars
+is_term_of program vars t = has_names (length program.names) t && nat_le (above t) vars
 
 -- goals
 
