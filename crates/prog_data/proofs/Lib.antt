@@ -1,4 +1,5 @@
 mod ArithmeticValues
+mod ControlTable
 pub mod GoalFolds
 pub mod Leaves
 pub mod MembershipLaws

@@ -107,9 +107,6 @@ module _ (value : ℕ → Term) where
   call_stays : (program : Program) (p : ℕ) (ts : List Term) → is_call_of program p ts ≡ true → is_call_of program p (map (instance value) ts) ≡ true
   call_stays program p ts e = let parts = and_parts (is_pred_of program p) _ e in both (is_pred_of program p) _ parts.0 (counted (pred_of program p).arity ts parts.1)
 
-
-
-
   -- the outermost construct of an instance
   abbrev outer : layer.Goal-F Goal → layer.Goal-F Goal
   outer (layer.Call p ts) = layer.Call p (map (instance value) ts)
@@ -181,21 +178,21 @@ module _ (value : ℕ → Term) where
         (λ e. ap (is_goal_of program others) (fold-Fail Goal (goal_instance_step value)) ∙ fold-Fail Bool (goal_step program others))
         (λ e. ap (is_goal_of program others) (fold-Cut Goal (goal_instance_step value)) ∙ fold-Cut Bool (goal_step program others))
         (λ p ts e. let parts = and_parts (is_call_of program p ts) _ (sym (fold-Call Bool (goal_step program vars) p ts) ∙ e) in
-            ap (is_goal_of program others) (fold-Call Goal (goal_instance_step value) p ts) ∙ fold-Call Bool (goal_step program others) p (map (instance value) ts)
-            ∙ both (is_call_of program p (map (instance value) ts)) _ (call_stays program p ts parts.0) (all_stay ts parts.1))
+        ap (is_goal_of program others) (fold-Call Goal (goal_instance_step value) p ts) ∙ fold-Call Bool (goal_step program others) p (map (instance value) ts)
+        ∙ both (is_call_of program p (map (instance value) ts)) _ (call_stays program p ts parts.0) (all_stay ts parts.1))
         (λ b ts e. let parts = and_parts (is_builtin_of (length program.grammar.rules) b ts) _ (sym (fold-Builtin Bool (goal_step program vars) b ts) ∙ e) in
-            ap (is_goal_of program others) (fold-Builtin Goal (goal_instance_step value) b ts) ∙ fold-Builtin Bool (goal_step program others) b (map (instance value) ts)
-            ∙ both (is_builtin_of (length program.grammar.rules) b (map (instance value) ts)) _ (builtin_stays (length program.grammar.rules) b ts parts.0) (all_stay ts parts.1))
+        ap (is_goal_of program others) (fold-Builtin Goal (goal_instance_step value) b ts) ∙ fold-Builtin Bool (goal_step program others) b (map (instance value) ts)
+        ∙ both (is_builtin_of (length program.grammar.rules) b (map (instance value) ts)) _ (builtin_stays (length program.grammar.rules) b ts parts.0) (all_stay ts parts.1))
         (λ a b p q e. let parts = and_parts (is_goal_of program vars a) _ (sym (fold-Conj Bool (goal_step program vars) a b) ∙ e) in
-            ap (is_goal_of program others) (fold-Conj Goal (goal_instance_step value) a b) ∙ fold-Conj Bool (goal_step program others) (goal_instance value a) (goal_instance value b)
-            ∙ both (is_goal_of program others (goal_instance value a)) _ (p parts.0) (q parts.1))
+        ap (is_goal_of program others) (fold-Conj Goal (goal_instance_step value) a b) ∙ fold-Conj Bool (goal_step program others) (goal_instance value a) (goal_instance value b)
+        ∙ both (is_goal_of program others (goal_instance value a)) _ (p parts.0) (q parts.1))
         (λ a b p q e. let parts = and_parts (is_goal_of program vars a) _ (sym (fold-Disj Bool (goal_step program vars) a b) ∙ e) in
-            ap (is_goal_of program others) (fold-Disj Goal (goal_instance_step value) a b) ∙ fold-Disj Bool (goal_step program others) (goal_instance value a) (goal_instance value b)
-            ∙ both (is_goal_of program others (goal_instance value a)) _ (p parts.0) (q parts.1))
+        ap (is_goal_of program others) (fold-Disj Goal (goal_instance_step value) a b) ∙ fold-Disj Bool (goal_step program others) (goal_instance value a) (goal_instance value b)
+        ∙ both (is_goal_of program others (goal_instance value a)) _ (p parts.0) (q parts.1))
         (λ c a b o p q e. let parts = and_parts (is_goal_of program vars c) _ (sym (fold-IfElse Bool (goal_step program vars) c a b) ∙ e) in
-            let branches = and_parts (is_goal_of program vars a) _ parts.1 in
-            ap (is_goal_of program others) (fold-IfElse Goal (goal_instance_step value) c a b) ∙ fold-IfElse Bool (goal_step program others) (goal_instance value c) (goal_instance value a) (goal_instance value b)
-            ∙ both (is_goal_of program others (goal_instance value c)) _ (o parts.0) (both (is_goal_of program others (goal_instance value a)) _ (p branches.0) (q branches.1)))
+        let branches = and_parts (is_goal_of program vars a) _ parts.1 in
+        ap (is_goal_of program others) (fold-IfElse Goal (goal_instance_step value) c a b) ∙ fold-IfElse Bool (goal_step program others) (goal_instance value c) (goal_instance value a) (goal_instance value b)
+        ∙ both (is_goal_of program others (goal_instance value c)) _ (o parts.0) (both (is_goal_of program others (goal_instance value a)) _ (p branches.0) (q branches.1)))
         (λ a p e. ap (is_goal_of program others) (fold-Not Goal (goal_instance_step value) a) ∙ fold-Not Bool (goal_step program others) (goal_instance value a) ∙ p (sym (fold-Not Bool (goal_step program vars) a) ∙ e))
         (λ e. absurd (true≢false (sym e ∙ fold-Exit Bool (goal_step program vars))))
 
@@ -237,16 +234,16 @@ module _ (terms : RangesStay) (program : Program) (names : List (List ℕ)) (lon
       (λ e. fold-Fail Bool (goal_step wide vars))
       (λ e. fold-Cut Bool (goal_step wide vars))
       (λ p ts e. let parts = and_parts (is_call_of program p ts) _ (sym (fold-Call Bool (goal_step program vars) p ts) ∙ e) in
-          fold-Call Bool (goal_step wide vars) p ts ∙ both (is_call_of program p ts) _ parts.0 (all_terms_up vars ts parts.1))
+      fold-Call Bool (goal_step wide vars) p ts ∙ both (is_call_of program p ts) _ parts.0 (all_terms_up vars ts parts.1))
       (λ b ts e. let parts = and_parts (is_builtin_of (length program.grammar.rules) b ts) _ (sym (fold-Builtin Bool (goal_step program vars) b ts) ∙ e) in
-          fold-Builtin Bool (goal_step wide vars) b ts ∙ both (is_builtin_of (length program.grammar.rules) b ts) _ parts.0 (all_terms_up vars ts parts.1))
+      fold-Builtin Bool (goal_step wide vars) b ts ∙ both (is_builtin_of (length program.grammar.rules) b ts) _ parts.0 (all_terms_up vars ts parts.1))
       (λ a b p q e. let parts = and_parts (is_goal_of program vars a) _ (sym (fold-Conj Bool (goal_step program vars) a b) ∙ e) in
-          fold-Conj Bool (goal_step wide vars) a b ∙ both (is_goal_of wide vars a) _ (p parts.0) (q parts.1))
+      fold-Conj Bool (goal_step wide vars) a b ∙ both (is_goal_of wide vars a) _ (p parts.0) (q parts.1))
       (λ a b p q e. let parts = and_parts (is_goal_of program vars a) _ (sym (fold-Disj Bool (goal_step program vars) a b) ∙ e) in
-          fold-Disj Bool (goal_step wide vars) a b ∙ both (is_goal_of wide vars a) _ (p parts.0) (q parts.1))
+      fold-Disj Bool (goal_step wide vars) a b ∙ both (is_goal_of wide vars a) _ (p parts.0) (q parts.1))
       (λ c a b o p q e. let parts = and_parts (is_goal_of program vars c) _ (sym (fold-IfElse Bool (goal_step program vars) c a b) ∙ e) in
-          let branches = and_parts (is_goal_of program vars a) _ parts.1 in
-          fold-IfElse Bool (goal_step wide vars) c a b ∙ both (is_goal_of wide vars c) _ (o parts.0) (both (is_goal_of wide vars a) _ (p branches.0) (q branches.1)))
+      let branches = and_parts (is_goal_of program vars a) _ parts.1 in
+      fold-IfElse Bool (goal_step wide vars) c a b ∙ both (is_goal_of wide vars c) _ (o parts.0) (both (is_goal_of wide vars a) _ (p branches.0) (q branches.1)))
       (λ a p e. fold-Not Bool (goal_step wide vars) a ∙ p (sym (fold-Not Bool (goal_step program vars) a) ∙ e))
       (λ e. absurd (true≢false (sym e ∙ fold-Exit Bool (goal_step program vars))))
 
@@ -256,8 +253,8 @@ module _ (terms : RangesStay) (program : Program) (names : List (List ℕ)) (lon
       let head = and_parts (length c.head == arity) _ parts.0 in
       let rest = and_parts (is_body_of program c.vars c.body) _ parts.1 in
       both ((length c.head == arity) && list_all (is_term_of wide c.vars) c.head) _
-          (both (length c.head == arity) _ head.0 (all_terms_up c.vars c.head head.1))
-          (both (is_body_of wide c.vars c.body) _ (goal_up c.vars (without_exit c.body) rest.0) (name_up c.place.file rest.1))
+      (both (length c.head == arity) _ head.0 (all_terms_up c.vars c.head head.1))
+      (both (is_body_of wide c.vars c.body) _ (goal_up c.vars (without_exit c.body) rest.0) (name_up c.place.file rest.1))
 
   rule_up : (r : Rule) → is_named_rule program r ≡ true → is_named_rule wide r ≡ true
   rule_up (rule.Atom a) e = name_up a e

@@ -4,60 +4,59 @@ use Rattle.prog_data.specs.declared.goals.Builtin.TheVariants as builtin
 use Rattle.prog_data.specs.declared.control.Control.TheVariants as control
 use Rattle.prog_data.specs.declared.control.Meaning.{Meaning}
 use Rattle.prog_data.specs.declared.control.Meaning.TheVariants.{Control, Builtin, ListTest}
-use Rattle.prog_data.specs.declared.control.Predefined.{Predefined}
 use Rattle.term_core.specs.declared.fixed.TheConstants.{COMMA, BAR, CUT, SEMICOLON, TRUE, FAIL, ARROW, NEGATION, EQUALS, NOT_EQUALS, SAME, NOT_SAME, IS, NUMBER_EQUALS, NUMBER_NOT_EQUALS, LESS, GREATER, LESS_OR_EQUAL, GREATER_OR_EQUAL, INTEGER, ATOM, WRITE, WRITEQ, NL, TERM, INT, NNEGINT, NUM, ATM, GND, CONSTANT, STRUCT, CALLABLE, LIST, VAR, NONVAR, GROUND}
 use Rattle.prog_data.specs.declared.basic_names.TheConstants.{TERM_TYPE, INT_TYPE, NNEGINT_TYPE, NUM_TYPE, ATM_TYPE, GND_TYPE, CONSTANT_TYPE, STRUCT_TYPE, CALLABLE_TYPE, LIST_TYPE}
 
--- a name with so many arguments, and its meaning
-abbrev pub row : ℕ → ℕ → Meaning → Predefined
-row name arity meaning = record { name = name; arity = arity; meaning = meaning }
+-- a name, its number of arguments and its meaning
+abbrev pub Predefined : Type 0
+Predefined = ℕ × ℕ × Meaning
 
 -- each construct of control and each built-in
 abbrev pub predefined : List Predefined
 predefined =
-    row COMMA 2 (Control control.Conjunction) ∷
-    row SEMICOLON 2 (Control control.Disjunction) ∷
-    row BAR 2 (Control control.Disjunction) ∷
-    row ARROW 2 (Control control.Implication) ∷
-    row NEGATION 1 (Control control.Negation) ∷
-    row CUT 0 (Control control.Cut) ∷
-    row TRUE 0 (Control control.True) ∷
-    row FAIL 0 (Control control.Fail) ∷
-    row EQUALS 2 (Builtin builtin.Unify) ∷
-    row NOT_EQUALS 2 (Builtin builtin.NotUnify) ∷
-    row SAME 2 (Builtin builtin.Same) ∷
-    row NOT_SAME 2 (Builtin builtin.NotSame) ∷
-    row IS 2 (Builtin builtin.Is) ∷
-    row LESS 2 (Builtin builtin.Less) ∷
-    row GREATER 2 (Builtin builtin.Greater) ∷
-    row LESS_OR_EQUAL 2 (Builtin builtin.LessEq) ∷
-    row GREATER_OR_EQUAL 2 (Builtin builtin.GreaterEq) ∷
-    row NUMBER_EQUALS 2 (Builtin builtin.NumEq) ∷
-    row NUMBER_NOT_EQUALS 2 (Builtin builtin.NumNotEq) ∷
-    row INTEGER 1 (Builtin builtin.Integer) ∷
-    row ATOM 1 (Builtin builtin.Atom) ∷
-    row WRITE 1 (Builtin builtin.Write) ∷
-    row WRITEQ 1 (Builtin builtin.Writeq) ∷
-    row NL 0 (Builtin builtin.Nl) ∷
-    row TERM 1 (Builtin (builtin.Belongs TERM_TYPE)) ∷
-    row INT 1 (Builtin (builtin.Belongs INT_TYPE)) ∷
-    row NNEGINT 1 (Builtin (builtin.Belongs NNEGINT_TYPE)) ∷
-    row NUM 1 (Builtin (builtin.Belongs NUM_TYPE)) ∷
-    row ATM 1 (Builtin (builtin.Belongs ATM_TYPE)) ∷
-    row GND 1 (Builtin (builtin.Belongs GND_TYPE)) ∷
-    row CONSTANT 1 (Builtin (builtin.Belongs CONSTANT_TYPE)) ∷
-    row STRUCT 1 (Builtin (builtin.Belongs STRUCT_TYPE)) ∷
-    row CALLABLE 1 (Builtin (builtin.Belongs CALLABLE_TYPE)) ∷
-    row LIST 1 (Builtin (builtin.Belongs LIST_TYPE)) ∷
-    row VAR 1 (Builtin builtin.IsVar) ∷
-    row NONVAR 1 (Builtin builtin.IsNonvar) ∷
-    row GROUND 1 (Builtin builtin.IsGround) ∷
-    row LIST 2 ListTest ∷
+    (COMMA, 2, Control control.Conjunction) ∷
+    (SEMICOLON, 2, Control control.Disjunction) ∷
+    (BAR, 2, Control control.Disjunction) ∷
+    (ARROW, 2, Control control.IfThen) ∷
+    (NEGATION, 1, Control control.Negation) ∷
+    (CUT, 0, Control control.Cut) ∷
+    (TRUE, 0, Control control.True) ∷
+    (FAIL, 0, Control control.Fail) ∷
+    (EQUALS, 2, Builtin builtin.Unify) ∷
+    (NOT_EQUALS, 2, Builtin builtin.NotUnify) ∷
+    (SAME, 2, Builtin builtin.Same) ∷
+    (NOT_SAME, 2, Builtin builtin.NotSame) ∷
+    (IS, 2, Builtin builtin.Is) ∷
+    (LESS, 2, Builtin builtin.Less) ∷
+    (GREATER, 2, Builtin builtin.Greater) ∷
+    (LESS_OR_EQUAL, 2, Builtin builtin.LessEq) ∷
+    (GREATER_OR_EQUAL, 2, Builtin builtin.GreaterEq) ∷
+    (NUMBER_EQUALS, 2, Builtin builtin.NumEq) ∷
+    (NUMBER_NOT_EQUALS, 2, Builtin builtin.NumNotEq) ∷
+    (INTEGER, 1, Builtin builtin.Integer) ∷
+    (ATOM, 1, Builtin builtin.Atom) ∷
+    (WRITE, 1, Builtin builtin.Write) ∷
+    (WRITEQ, 1, Builtin builtin.Writeq) ∷
+    (NL, 0, Builtin builtin.Nl) ∷
+    (TERM, 1, Builtin (builtin.Belongs TERM_TYPE)) ∷
+    (INT, 1, Builtin (builtin.Belongs INT_TYPE)) ∷
+    (NNEGINT, 1, Builtin (builtin.Belongs NNEGINT_TYPE)) ∷
+    (NUM, 1, Builtin (builtin.Belongs NUM_TYPE)) ∷
+    (ATM, 1, Builtin (builtin.Belongs ATM_TYPE)) ∷
+    (GND, 1, Builtin (builtin.Belongs GND_TYPE)) ∷
+    (CONSTANT, 1, Builtin (builtin.Belongs CONSTANT_TYPE)) ∷
+    (STRUCT, 1, Builtin (builtin.Belongs STRUCT_TYPE)) ∷
+    (CALLABLE, 1, Builtin (builtin.Belongs CALLABLE_TYPE)) ∷
+    (LIST, 1, Builtin (builtin.Belongs LIST_TYPE)) ∷
+    (VAR, 1, Builtin builtin.IsVar) ∷
+    (NONVAR, 1, Builtin builtin.IsNonvar) ∷
+    (GROUND, 1, Builtin builtin.IsGround) ∷
+    (LIST, 2, ListTest) ∷
     []
 
 -- the meaning of a name with so many arguments in a table
 abbrev pub meaning_among : List Predefined → ℕ → ℕ → Option Meaning
-meaning_among table name arity = option_map (λ r. r.meaning) (find (λ r. (r.name == name) && (r.arity == arity)) table)
+meaning_among table name arity = option_map (λ row. row.2) (find (λ row. (row.0 == name) && (row.1 == arity)) table)
 
 -- what a name with so many arguments means, none where it is no control and no built-in
 abbrev pub meaning_of : ℕ → ℕ → Option Meaning

@@ -8,6 +8,7 @@ pub mod Values
 pub mod Laws
 pub mod Refusals
 pub mod Control
+pub mod ControlLaws
 pub mod Ranges
 pub mod RangeLaws
 pub mod Programs

@@ -1,6 +1,7 @@
 // Control and built-ins: what a name with so many arguments means as a goal.
 ghost use Rattle.std.specs.Prelude.{◌≡◌};
 ghost use Rattle.prog_data.specs.Control.{meaning_among, meaning_of};
+ghost use Rattle.prog_data.specs.ControlLaws.{IsOneTable};
 
 use crate::Builtin;
 use crate::basic_names::{
@@ -20,8 +21,8 @@ pub enum Control {
     Conjunction,
     /// Also the bar.
     Disjunction,
-    /// Alone, or as the first part of a disjunction, which is then its other branch.
-    Implication,
+    /// As the first part of a disjunction, which then has its other branch.
+    IfThen,
     Negation,
     Cut,
     True,
@@ -37,215 +38,63 @@ pub enum Meaning {
     ListTest,
 }
 
-/// A name with its number of arguments and its meaning.
-#[derive(Clone, Copy, Drop, Debug)]
-pub struct Predefined {
-    pub name: u64,
-    pub arity: u64,
-    pub meaning: Meaning,
-}
-
-// Each construct of control and each built-in.
-const PREDEFINED: [Predefined; 38] = [
-    Predefined {
-        name: COMMA,
-        arity: 2,
-        meaning: Meaning::Control(Control::Conjunction),
-    },
-    Predefined {
-        name: SEMICOLON,
-        arity: 2,
-        meaning: Meaning::Control(Control::Disjunction),
-    },
-    Predefined {
-        name: BAR,
-        arity: 2,
-        meaning: Meaning::Control(Control::Disjunction),
-    },
-    Predefined {
-        name: ARROW,
-        arity: 2,
-        meaning: Meaning::Control(Control::Implication),
-    },
-    Predefined {
-        name: NEGATION,
-        arity: 1,
-        meaning: Meaning::Control(Control::Negation),
-    },
-    Predefined {
-        name: CUT,
-        arity: 0,
-        meaning: Meaning::Control(Control::Cut),
-    },
-    Predefined {
-        name: TRUE,
-        arity: 0,
-        meaning: Meaning::Control(Control::True),
-    },
-    Predefined {
-        name: FAIL,
-        arity: 0,
-        meaning: Meaning::Control(Control::Fail),
-    },
-    Predefined {
-        name: EQUALS,
-        arity: 2,
-        meaning: Meaning::Builtin(Builtin::Unify),
-    },
-    Predefined {
-        name: NOT_EQUALS,
-        arity: 2,
-        meaning: Meaning::Builtin(Builtin::NotUnify),
-    },
-    Predefined {
-        name: SAME,
-        arity: 2,
-        meaning: Meaning::Builtin(Builtin::Same),
-    },
-    Predefined {
-        name: NOT_SAME,
-        arity: 2,
-        meaning: Meaning::Builtin(Builtin::NotSame),
-    },
-    Predefined {
-        name: IS,
-        arity: 2,
-        meaning: Meaning::Builtin(Builtin::Is),
-    },
-    Predefined {
-        name: LESS,
-        arity: 2,
-        meaning: Meaning::Builtin(Builtin::Less),
-    },
-    Predefined {
-        name: GREATER,
-        arity: 2,
-        meaning: Meaning::Builtin(Builtin::Greater),
-    },
-    Predefined {
-        name: LESS_OR_EQUAL,
-        arity: 2,
-        meaning: Meaning::Builtin(Builtin::LessEq),
-    },
-    Predefined {
-        name: GREATER_OR_EQUAL,
-        arity: 2,
-        meaning: Meaning::Builtin(Builtin::GreaterEq),
-    },
-    Predefined {
-        name: NUMBER_EQUALS,
-        arity: 2,
-        meaning: Meaning::Builtin(Builtin::NumEq),
-    },
-    Predefined {
-        name: NUMBER_NOT_EQUALS,
-        arity: 2,
-        meaning: Meaning::Builtin(Builtin::NumNotEq),
-    },
-    Predefined {
-        name: INTEGER,
-        arity: 1,
-        meaning: Meaning::Builtin(Builtin::Integer),
-    },
-    Predefined {
-        name: ATOM,
-        arity: 1,
-        meaning: Meaning::Builtin(Builtin::Atom),
-    },
-    Predefined {
-        name: WRITE,
-        arity: 1,
-        meaning: Meaning::Builtin(Builtin::Write),
-    },
-    Predefined {
-        name: WRITEQ,
-        arity: 1,
-        meaning: Meaning::Builtin(Builtin::Writeq),
-    },
-    Predefined {
-        name: NL,
-        arity: 0,
-        meaning: Meaning::Builtin(Builtin::Nl),
-    },
-    Predefined {
-        name: TERM,
-        arity: 1,
-        meaning: Meaning::Builtin(Builtin::Belongs(TERM_TYPE)),
-    },
-    Predefined {
-        name: INT,
-        arity: 1,
-        meaning: Meaning::Builtin(Builtin::Belongs(INT_TYPE)),
-    },
-    Predefined {
-        name: NNEGINT,
-        arity: 1,
-        meaning: Meaning::Builtin(Builtin::Belongs(NNEGINT_TYPE)),
-    },
-    Predefined {
-        name: NUM,
-        arity: 1,
-        meaning: Meaning::Builtin(Builtin::Belongs(NUM_TYPE)),
-    },
-    Predefined {
-        name: ATM,
-        arity: 1,
-        meaning: Meaning::Builtin(Builtin::Belongs(ATM_TYPE)),
-    },
-    Predefined {
-        name: GND,
-        arity: 1,
-        meaning: Meaning::Builtin(Builtin::Belongs(GND_TYPE)),
-    },
-    Predefined {
-        name: CONSTANT,
-        arity: 1,
-        meaning: Meaning::Builtin(Builtin::Belongs(CONSTANT_TYPE)),
-    },
-    Predefined {
-        name: STRUCT,
-        arity: 1,
-        meaning: Meaning::Builtin(Builtin::Belongs(STRUCT_TYPE)),
-    },
-    Predefined {
-        name: CALLABLE,
-        arity: 1,
-        meaning: Meaning::Builtin(Builtin::Belongs(CALLABLE_TYPE)),
-    },
-    Predefined {
-        name: LIST,
-        arity: 1,
-        meaning: Meaning::Builtin(Builtin::Belongs(LIST_TYPE)),
-    },
-    Predefined {
-        name: VAR,
-        arity: 1,
-        meaning: Meaning::Builtin(Builtin::IsVar),
-    },
-    Predefined {
-        name: NONVAR,
-        arity: 1,
-        meaning: Meaning::Builtin(Builtin::IsNonvar),
-    },
-    Predefined {
-        name: GROUND,
-        arity: 1,
-        meaning: Meaning::Builtin(Builtin::IsGround),
-    },
-    Predefined {
-        name: LIST,
-        arity: 2,
-        meaning: Meaning::ListTest,
-    },
+// Each construct of control and each built-in: its name, its number of arguments and its meaning.
+const PREDEFINED: [(u64, u64, Meaning); 38] = [
+    (COMMA, 2, Meaning::Control(Control::Conjunction)),
+    (SEMICOLON, 2, Meaning::Control(Control::Disjunction)),
+    (BAR, 2, Meaning::Control(Control::Disjunction)),
+    (ARROW, 2, Meaning::Control(Control::IfThen)),
+    (NEGATION, 1, Meaning::Control(Control::Negation)),
+    (CUT, 0, Meaning::Control(Control::Cut)),
+    (TRUE, 0, Meaning::Control(Control::True)),
+    (FAIL, 0, Meaning::Control(Control::Fail)),
+    (EQUALS, 2, Meaning::Builtin(Builtin::Unify)),
+    (NOT_EQUALS, 2, Meaning::Builtin(Builtin::NotUnify)),
+    (SAME, 2, Meaning::Builtin(Builtin::Same)),
+    (NOT_SAME, 2, Meaning::Builtin(Builtin::NotSame)),
+    (IS, 2, Meaning::Builtin(Builtin::Is)),
+    (LESS, 2, Meaning::Builtin(Builtin::Less)),
+    (GREATER, 2, Meaning::Builtin(Builtin::Greater)),
+    (LESS_OR_EQUAL, 2, Meaning::Builtin(Builtin::LessEq)),
+    (GREATER_OR_EQUAL, 2, Meaning::Builtin(Builtin::GreaterEq)),
+    (NUMBER_EQUALS, 2, Meaning::Builtin(Builtin::NumEq)),
+    (NUMBER_NOT_EQUALS, 2, Meaning::Builtin(Builtin::NumNotEq)),
+    (INTEGER, 1, Meaning::Builtin(Builtin::Integer)),
+    (ATOM, 1, Meaning::Builtin(Builtin::Atom)),
+    (WRITE, 1, Meaning::Builtin(Builtin::Write)),
+    (WRITEQ, 1, Meaning::Builtin(Builtin::Writeq)),
+    (NL, 0, Meaning::Builtin(Builtin::Nl)),
+    (TERM, 1, Meaning::Builtin(Builtin::Belongs(TERM_TYPE))),
+    (INT, 1, Meaning::Builtin(Builtin::Belongs(INT_TYPE))),
+    (NNEGINT, 1, Meaning::Builtin(Builtin::Belongs(NNEGINT_TYPE))),
+    (NUM, 1, Meaning::Builtin(Builtin::Belongs(NUM_TYPE))),
+    (ATM, 1, Meaning::Builtin(Builtin::Belongs(ATM_TYPE))),
+    (GND, 1, Meaning::Builtin(Builtin::Belongs(GND_TYPE))),
+    (
+        CONSTANT,
+        1,
+        Meaning::Builtin(Builtin::Belongs(CONSTANT_TYPE)),
+    ),
+    (STRUCT, 1, Meaning::Builtin(Builtin::Belongs(STRUCT_TYPE))),
+    (
+        CALLABLE,
+        1,
+        Meaning::Builtin(Builtin::Belongs(CALLABLE_TYPE)),
+    ),
+    (LIST, 1, Meaning::Builtin(Builtin::Belongs(LIST_TYPE))),
+    (VAR, 1, Meaning::Builtin(Builtin::IsVar)),
+    (NONVAR, 1, Meaning::Builtin(Builtin::IsNonvar)),
+    (GROUND, 1, Meaning::Builtin(Builtin::IsGround)),
+    (LIST, 2, Meaning::ListTest),
 ];
 
 // The meaning of a name with so many arguments in a table.
-fn meaning_among(table: &[Predefined], name: u64, arity: u64) -> Option<Meaning>
+fn meaning_among(table: &[(u64, u64, Meaning)], name: u64, arity: u64) -> Option<Meaning>
     ensures { result ≡ meaning_among table.now name arity }
 {
     for row in table {
-        if row.name == name && row.arity == arity {
-            return Some(row.meaning);
+        if row.0 == name && row.1 == arity {
+            return Some(row.2);
         }
     }
     None
@@ -257,3 +106,8 @@ pub fn meaning_of(name: u64, arity: u64) -> Option<Meaning>
 {
     meaning_among(&PREDEFINED, name, arity)
 }
+
+/// The table has each name with its number of arguments once, and the number that its meaning takes.
+pub fn control_law()
+    ensures { IsOneTable }
+{}

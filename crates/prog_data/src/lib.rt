@@ -23,7 +23,7 @@ pub use basic_names::{
 pub use conditions::{
     CompProp, Cond, CondKind, Prop, conjunction_persistence_law, property_persistence_law,
 };
-pub use control::{Control, Meaning, Predefined, meaning_of};
+pub use control::{Control, Meaning, control_law, meaning_of};
 pub use events::{ArithKind, Ending, Event, Text};
 pub use goals::{Builtin, Goal};
 pub use grammars::{Basic, Grammar, Rule, Seen, membership_law, persistence_law};
