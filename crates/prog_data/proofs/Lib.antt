@@ -4,4 +4,5 @@ pub mod GoalFolds
 pub mod Leaves
 pub mod MembershipLaws
 mod Persistence
+mod ProgramParts
 mod RangeLaws

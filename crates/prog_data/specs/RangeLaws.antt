@@ -1,8 +1,10 @@
 -- What is in range of a program stays so.
-use Rattle.std.specs.Prelude.{◌≡◌, ◌<◌, ℕ, true, false, List, length}
+use Rattle.std.specs.Prelude.{◌≡◌, ◌<◌, ℕ, true, false, List, [], length, slice_get, Some, Contains}
 use Rattle.term_core.specs.declared.terms.Term.{Term}
-use Rattle.term_core.specs.Names.{IsPrefix}
+use Rattle.term_core.specs.Names.{fixed_names, IsPrefix}
+use Rattle.term_core.specs.Standard.{standard}
 use Rattle.term_core.specs.Terms.{instance}
+use Rattle.prog_data.specs.declared.conditions.Cond.{Cond}
 use Rattle.prog_data.specs.declared.goals.Goal.{Goal}
 use Rattle.prog_data.specs.declared.programs.Program.{Program}
 use Rattle.prog_data.specs.BasicNames.{basic_grammar}
@@ -27,3 +29,13 @@ pub record RangesAreKept : Type 0 where
   pub preds : (program : Program) → IsProgram program → (p : ℕ) → p < length program.preds → IsPred program p (pred_of program p)
   -- a query is read with names behind those of the program
   pub more_names : (program : Program) (names : List (List ℕ)) → IsPrefix program.names names → IsProgram program → IsProgram (with_names names program)
+
+-- the program of the names that the language knows, with nothing in it
+abbrev pub empty_program : Program
+empty_program = record { names = fixed_names; ops = standard; files = []; preds = []; conds = []; claims = []; grammar = basic_grammar; exports = []; entries = [] }
+
+-- in a program in range the conditions of a predicate are exactly those that name it; there is a program in range
+pub record PartsAgree : Type 0 where
+  pub own : (program : Program) → IsProgram program → (p c : ℕ) (condition : Cond) → Contains (pred_of program p).conds c → slice_get program.conds c ≡ Some condition → condition.pred ≡ p
+  pub all : (program : Program) → IsProgram program → (c : ℕ) (condition : Cond) → slice_get program.conds c ≡ Some condition → Contains (pred_of program condition.pred).conds c
+  pub empty : IsProgram empty_program

@@ -29,7 +29,7 @@ pub use goals::{Builtin, Goal};
 pub use grammars::{Basic, Grammar, Rule, Seen, membership_law, persistence_law};
 pub use programs::{Check, Claim, Clause, Entry, Keyword, Place, Pred, Program};
 pub use queries::called_by;
-pub use ranges::program_ranges_law;
+pub use ranges::{program_parts_law, program_ranges_law};
 pub use refusals::{Refusal, RefusalKind, kind_word};
 pub use tables::{Row, Status, Table, Value, value_persistence_law};
 pub use threads::program_threads_law;

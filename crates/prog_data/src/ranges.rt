@@ -1,5 +1,5 @@
 // What is in range of a program.
-ghost use Rattle.prog_data.specs.RangeLaws.{RangesAreKept};
+ghost use Rattle.prog_data.specs.RangeLaws.{RangesAreKept, PartsAgree};
 
 use term_core::ranges_law;
 
@@ -9,3 +9,8 @@ pub fn program_ranges_law()
 {
     ranges_law();
 }
+
+/// In a program in range the conditions of a predicate are exactly those that name it.
+pub fn program_parts_law()
+    ensures { PartsAgree }
+{}
