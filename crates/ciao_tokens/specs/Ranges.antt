@@ -1,7 +1,7 @@
 -- Tokens in range.
 use Rattle.std.specs.Prelude.{◌<◌, ⊤, ℕ, List, length}
 use Rattle.std.specs.List.{AllByRecursion}
-use Rattle.term_core.specs.Names.{IsPrefix}
+use Rattle.term_core.specs.Lists.{IsPrefix}
 use Rattle.ciao_tokens.specs.Tokens.{HasTokens}
 use Rattle.ciao_tokens.specs.declared.kinds.Token.{Token}
 use Rattle.ciao_tokens.specs.declared.kinds.TokenKind.{TokenKind}
