@@ -1,40 +1,40 @@
-pub mod Climbing
-pub mod EveryOutcome
+mod Climbing
+mod EveryOutcome
 pub mod EveryText
-pub mod Followed
+mod Followed
 pub mod MadeAfter
-pub mod Numbering
-pub mod OneOutcome
-pub mod OneSentence
+mod Numbering
+mod OneOutcome
+mod OneSentence
 pub mod OneText
-pub mod OneTree
-pub mod PartLaws
-pub mod PartLists
-pub mod Positions
-pub mod PrintedCut
-pub mod PrintedCutApart
-pub mod PrintedEdges
-pub mod PrintedNames
-pub mod PrintedNumbers
-pub mod PrintedRoles
-pub mod PrintedTerms
-pub mod PrintedTermsCases
-pub mod PrintedTermsCompounds
-pub mod PrintedTermsForm
-pub mod PrintedTermsTexts
-pub mod PrintedTermsWords
-pub mod PrintedTokens
-pub mod PrintedTrees
-pub mod PrintedVariables
-pub mod PrintedWords
-pub mod RangedSentences
-pub mod RangedTerms
-pub mod ReadBack
-pub mod ReadBackAnswers
-pub mod RenumberedTrees
-pub mod Samples
-pub mod SentenceLaws
-pub mod SentenceLists
-pub mod Simulation
-pub mod Sound
-pub mod TextFaults
+mod OneTree
+mod PartLaws
+mod PartLists
+mod Positions
+mod PrintedCut
+mod PrintedCutApart
+mod PrintedEdges
+mod PrintedNames
+mod PrintedNumbers
+mod PrintedRoles
+mod PrintedTerms
+mod PrintedTermsCases
+mod PrintedTermsCompounds
+mod PrintedTermsForm
+mod PrintedTermsTexts
+mod PrintedTermsWords
+mod PrintedTokens
+mod PrintedTrees
+mod PrintedVariables
+mod PrintedWords
+mod RangedSentences
+mod RangedTerms
+mod ReadBack
+mod ReadBackAnswers
+mod RenumberedTrees
+mod Samples
+mod SentenceLaws
+mod SentenceLists
+mod Simulation
+mod Sound
+mod TextFaults

@@ -8,7 +8,8 @@ use Rattle.term_core.specs.declared.terms.Term.{Term, out-Term}
 use Rattle.term_core.specs.declared.terms.Term.TheOpen.{Term-F, Int, Atom, Node}
 use Rattle.term_core.specs.Operators.{added}
 use Rattle.term_core.specs.Standard.{IsMade, change}
-use Rattle.ciao_reader.specs.Changes.{kind_named, names_in, added_all, text_of, after_op, after_directive, after_sentence, table_after}
+use Rattle.term_core.specs.Names.{name_text}
+use Rattle.ciao_reader.specs.Changes.{kind_named, names_in, added_all, after_op, after_directive, after_sentence, table_after}
 
 -- an answer that is there can be made
 abbrev IfMade : Option Operators → Type 0
@@ -40,11 +41,11 @@ module _ (names : List (List ℕ)) (ops : Operators) (made : IsMade ops) where
   kind_made p ns (Some kind) = added_all_made p kind ns ops made
 
   after_op_made : (p k : Term-F Term) (ns : Option (List ℕ)) → IfMade (after_op names ops p k ns)
-  after_op_made (Int p) (Atom k) (Some ns) = kind_made p ns (kind_named (text_of names k))
+  after_op_made (Int p) (Atom k) (Some ns) = kind_made p ns (kind_named (name_text names k))
   after_op_made p k ns = none_made
 
   after_directive_made : (t : Term-F Term) → IfMade (after_directive names ops t)
-  after_directive_made (Node f (p ∷ k ∷ n ∷ [])) = by (bytes_eq (text_of names f) (codes "op"))
+  after_directive_made (Node f (p ∷ k ∷ n ∷ [])) = by (bytes_eq (name_text names f) (codes "op"))
     where
       by : (b : Bool) → IfMade (if b then after_op names ops (out-Term p) (out-Term k) (names_in n) else Some ops)
       by true = after_op_made (out-Term p) (out-Term k) (names_in n)

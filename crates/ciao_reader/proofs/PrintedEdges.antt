@@ -14,7 +14,7 @@ use Rattle.ciao_reader.specs.Roles.{calls_next, is_above, goes_on, breaks_at, st
 use Rattle.ciao_reader.specs.Derivations.{Tree, number, negative, variable, text, atom, no_items, no_braces, call, parens, braces, items, items_and_tail, before, between, op_priority, priority, takes_one, takes_two, fits}
 use Rattle.ciao_reader.proofs.OneTree.{left_le}
 use Rattle.ciao_reader.proofs.PrintedTrees.{is_operator, is_guarded, is_operand}
-use Rattle.ciao_reader.proofs.PrintedWords.{Bit, bit, infix_bits, bits, bits_of_all, name_kind, tokens_of}
+use Rattle.ciao_reader.proofs.PrintedWords.{Spaced, one_word, spaced_infix, spaced, spaced_of_all, name_kind, tokens_of}
 
 module _ (ops : Operators) where
   -- an atom that is no operator is neither a prefix nor an infix operator
@@ -44,17 +44,17 @@ module _ (ops : Operators) where
         by true = and_left _ _ e
         by false = and_left _ _ e
 
-    -- before the bits of a term no prefix operator with this limit stands alone
-    pub holds : (t : Tree) (behind_name behind_layout : Bool) (rest : List Bit) → fits ops t ≡ true → is_guarded ops t ≡ true → is_operand ops t ≡ true → priority ops t ≤ limit
-        → stands_alone ops limit (tokens_of spelling is_bare behind_name behind_layout (bits t ++ rest)) ≡ false
+    -- before the words and blanks of a term no prefix operator with this limit stands alone
+    pub holds : (t : Tree) (behind_name behind_layout : Bool) (rest : List Spaced) → fits ops t ≡ true → is_guarded ops t ≡ true → is_operand ops t ≡ true → priority ops t ≤ limit
+        → stands_alone ops limit (tokens_of spelling is_bare behind_name behind_layout (spaced t ++ rest)) ≡ false
     holds (number n) bn bl rest f g o l = refl
-    holds (negative n) bn bl rest f g o l = and_right (goes_on ops limit fixed.MINUS (tokens_of spelling is_bare true false (bit (word.Number n) ∷ rest))) false refl
+    holds (negative n) bn bl rest f g o l = and_right (goes_on ops limit fixed.MINUS (tokens_of spelling is_bare true false (one_word (word.Number n) ∷ rest))) false refl
     holds (variable v) bn bl rest f g o l = refl
     holds (text cs) bn bl rest f g o l = refl
     holds (atom a) bn bl rest f g o l = name_holds a (tokens_of spelling is_bare true false rest) (and_left _ _ (no_operator a o).1)
     holds no_items bn bl rest f g o l = refl
     holds no_braces bn bl rest f g o l = refl
-    holds (call h ts) bn bl rest f g o l = name_holds h (tokens_of spelling is_bare true false (bit word.Paren ∷ ((bits_of_all ts ++ (bit word.CloseParen ∷ [])) ++ rest))) (and_right (is_some (infix_of ops h)) false refl)
+    holds (call h ts) bn bl rest f g o l = name_holds h (tokens_of spelling is_bare true false (one_word word.Paren ∷ ((spaced_of_all ts ++ (one_word word.CloseParen ∷ [])) ++ rest))) (and_right (is_some (infix_of ops h)) false refl)
     holds (parens t) true bl rest f g o l = refl
     holds (parens t) false bl rest f g o l = refl
     holds (braces t) bn bl rest f g o l = refl
@@ -62,9 +62,9 @@ module _ (ops : Operators) where
     holds (items_and_tail ts t) bn bl rest f g o l = refl
     holds (before h t) bn bl rest f g o l =
         let above : is_above limit (prefix_of ops h) ≡ false = not_above limit (prefix_of ops h) (priority ops t) (and_parts _ _ f).0 l in
-        let ts = tokens_of spelling is_bare false true (bits t ++ rest) in
+        let ts = tokens_of spelling is_bare false true (spaced t ++ rest) in
         name_holds h ts (and_right (is_some (infix_of ops h)) _ (and_right (not (calls_next ts)) _ above))
     holds (between h t u) bn bl rest f g o l =
-        ap (λ bs. stands_alone ops limit (tokens_of spelling is_bare bn bl bs)) (append_assoc (bits t) (infix_bits h ++ bits u) rest)
-        ∙ holds t bn bl ((infix_bits h ++ bits u) ++ rest) (and_parts _ _ (and_parts _ _ f).1).0 (and_parts _ _ (and_parts _ _ g).1).0 (and_parts _ _ (and_parts _ _ g).0).0
+        ap (λ bs. stands_alone ops limit (tokens_of spelling is_bare bn bl bs)) (append_assoc (spaced t) (spaced_infix h ++ spaced u) rest)
+        ∙ holds t bn bl ((spaced_infix h ++ spaced u) ++ rest) (and_parts _ _ (and_parts _ _ f).1).0 (and_parts _ _ (and_parts _ _ g).1).0 (and_parts _ _ (and_parts _ _ g).0).0
         (left_within limit (infix_of ops h) (priority ops t) (priority ops u) (and_parts _ _ f).0 l)

@@ -14,7 +14,7 @@ use Rattle.ciao_reader.specs.declared.words.Word.TheVariants as word
 use Rattle.ciao_reader.specs.Roles.{is_open_call, calls_next, is_number, number_next, stands_alone, operand_role, name_role, due_behind, roles_from, roles}
 use Rattle.ciao_reader.specs.Derivations.{Tree, Trees, number, negative, variable, text, atom, no_items, no_braces, call, parens, braces, items, items_and_tail, before, between, one, more, words, words_of_all, infix_word, priority, takes_one, fits, all_fit}
 use Rattle.ciao_reader.proofs.PrintedTrees.{is_guarded, is_operand, all_guarded}
-use Rattle.ciao_reader.proofs.PrintedWords.{Bit, blank, bit, infix_bits, bits, bits_of_all, name_kind, kind_of, token_of, tokens_of, seen_after, numbered_word, numbered_words}
+use Rattle.ciao_reader.proofs.PrintedWords.{Spaced, blank, one_word, spaced_infix, spaced, spaced_of_all, name_kind, kind_of, token_of, tokens_of, seen_after, numbered_word, numbered_words}
 use Rattle.ciao_reader.proofs.PrintedEdges.{no_operator, holds}
 
 module _ (names : List (List ℕ)) (spelling : ℕ → ℕ) where
@@ -37,49 +37,49 @@ module _ (names : List (List ℕ)) (spelling : ℕ → ℕ) where
   told_alone seen (w ∷ ws) = ap (λ us. numbered_word names spelling seen w ∷ us) (told_alone (seen_after names spelling seen w) ws)
 
 -- nothing comes next, or a word that ends a term
-abbrev closes : List Bit → Bool
+abbrev closes : List Spaced → Bool
 closes [] = true
-closes (bit word.CloseParen ∷ bs) = true
-closes (bit word.CloseList ∷ bs) = true
-closes (bit word.CloseCurly ∷ bs) = true
-closes (bit word.Comma ∷ bs) = true
-closes (bit word.Bar ∷ bs) = true
+closes (one_word word.CloseParen ∷ bs) = true
+closes (one_word word.CloseList ∷ bs) = true
+closes (one_word word.CloseCurly ∷ bs) = true
+closes (one_word word.Comma ∷ bs) = true
+closes (one_word word.Bar ∷ bs) = true
 closes other = false
 
 -- what holds before nothing and before each word that ends a term
-by_closing : (P : List Bit → Type 0) → P [] → ((bs : List Bit) → P (bit word.CloseParen ∷ bs)) → ((bs : List Bit) → P (bit word.CloseList ∷ bs)) → ((bs : List Bit) → P (bit word.CloseCurly ∷ bs))
-    → ((bs : List Bit) → P (bit word.Comma ∷ bs)) → ((bs : List Bit) → P (bit word.Bar ∷ bs)) → (bs : List Bit) → closes bs ≡ true → P bs
+by_closing : (P : List Spaced → Type 0) → P [] → ((bs : List Spaced) → P (one_word word.CloseParen ∷ bs)) → ((bs : List Spaced) → P (one_word word.CloseList ∷ bs)) → ((bs : List Spaced) → P (one_word word.CloseCurly ∷ bs))
+    → ((bs : List Spaced) → P (one_word word.Comma ∷ bs)) → ((bs : List Spaced) → P (one_word word.Bar ∷ bs)) → (bs : List Spaced) → closes bs ≡ true → P bs
 by_closing P none paren list curly comma bar [] e = none
-by_closing P none paren list curly comma bar (bit word.CloseParen ∷ bs) e = paren bs
-by_closing P none paren list curly comma bar (bit word.CloseList ∷ bs) e = list bs
-by_closing P none paren list curly comma bar (bit word.CloseCurly ∷ bs) e = curly bs
-by_closing P none paren list curly comma bar (bit word.Comma ∷ bs) e = comma bs
-by_closing P none paren list curly comma bar (bit word.Bar ∷ bs) e = bar bs
+by_closing P none paren list curly comma bar (one_word word.CloseParen ∷ bs) e = paren bs
+by_closing P none paren list curly comma bar (one_word word.CloseList ∷ bs) e = list bs
+by_closing P none paren list curly comma bar (one_word word.CloseCurly ∷ bs) e = curly bs
+by_closing P none paren list curly comma bar (one_word word.Comma ∷ bs) e = comma bs
+by_closing P none paren list curly comma bar (one_word word.Bar ∷ bs) e = bar bs
 by_closing P none paren list curly comma bar bs e = absurd (false≢true e)
 
 module _ (names : List (List ℕ)) (ops : Operators) (spelling : ℕ → ℕ) (is_bare : ℕ → Bool) where
   -- what ends a term comes behind this one, or a blank behind one that is no atom of an operator
-  abbrev may_follow : Tree → List Bit → Bool
+  abbrev may_follow : Tree → List Spaced → Bool
   may_follow t (blank ∷ rest) = is_operand ops t
   may_follow t rest = closes rest
 
-  abbrev tokens : Bool → Bool → List Bit → List Token
+  abbrev tokens : Bool → Bool → List Spaced → List Token
   tokens = tokens_of spelling is_bare
 
   -- what is told behind a term
-  abbrev behind : List Bit → List ℕ → List Word
+  abbrev behind : List Spaced → List ℕ → List Word
   behind rest seen = roles_from names ops false seen (tokens false false rest)
 
   -- what ends a term may follow each term, and an argument of an operator all that the operator's term may
-  closing_follows : (t : Tree) (rest : List Bit) → closes rest ≡ true → may_follow t rest ≡ true
+  closing_follows : (t : Tree) (rest : List Spaced) → closes rest ≡ true → may_follow t rest ≡ true
   closing_follows t (blank ∷ rest) e = absurd (false≢true e)
   closing_follows t [] e = e
-  closing_follows t (bit w ∷ rest) e = e
+  closing_follows t (one_word w ∷ rest) e = e
 
-  operand_follows : (t u : Tree) (rest : List Bit) → is_operand ops t ≡ true → may_follow u rest ≡ true → may_follow t rest ≡ true
+  operand_follows : (t u : Tree) (rest : List Spaced) → is_operand ops t ≡ true → may_follow u rest ≡ true → may_follow t rest ≡ true
   operand_follows t u (blank ∷ rest) e m = e
   operand_follows t u [] e m = m
-  operand_follows t u (bit w ∷ rest) e m = m
+  operand_follows t u (one_word w ∷ rest) e m = m
 
   -- names
 
@@ -111,19 +111,19 @@ module _ (names : List (List ℕ)) (ops : Operators) (spelling : ℕ → ℕ) (i
   opens_none w = refl
 
   -- behind no name, nothing is called
-  none_called : (behind_layout : Bool) (bs : List Bit) → calls_next (tokens false behind_layout bs) ≡ false
+  none_called : (behind_layout : Bool) (bs : List Spaced) → calls_next (tokens false behind_layout bs) ≡ false
   none_called bl [] = refl
   none_called bl (blank ∷ bs) = none_called true bs
-  none_called bl (bit w ∷ bs) = opens_none w
+  none_called bl (one_word w ∷ bs) = opens_none w
 
   -- behind layout, no number makes a `-` a sign
-  none_signed : (behind_name : Bool) (bs : List Bit) → number_next (tokens behind_name true bs) ≡ false
+  none_signed : (behind_name : Bool) (bs : List Spaced) → number_next (tokens behind_name true bs) ≡ false
   none_signed bn [] = refl
   none_signed bn (blank ∷ bs) = none_signed false bs
-  none_signed bn (bit w ∷ bs) = and_right (is_number (kind_of spelling is_bare bn w)) false refl
+  none_signed bn (one_word w ∷ bs) = and_right (is_number (kind_of spelling is_bare bn w)) false refl
 
   -- what comes behind leaves the name an atom
-  record Leaves (a : ℕ) (rest : List Bit) : Type 0 where
+  record Leaves (a : ℕ) (rest : List Spaced) : Type 0 where
     pub calls : calls_next (tokens true false rest) ≡ false
     pub signs : number_next (tokens true false rest) ≡ false
     pub role : operand_role ops a (prefix_of ops a) (tokens true false rest) ≡ word.Atom a
@@ -137,7 +137,7 @@ module _ (names : List (List ℕ)) (ops : Operators) (spelling : ℕ → ℕ) (i
   alone a None ts e = refl
   alone a (Some o) ts e = cond-true (stands_alone ops (right_limit o) ts) _ _ (e (right_limit o))
 
-  closing_leaves : (a : ℕ) (rest : List Bit) → closes rest ≡ true → Leaves a rest
+  closing_leaves : (a : ℕ) (rest : List Spaced) → closes rest ≡ true → Leaves a rest
   closing_leaves a rest e = record {
     calls = by_closing (λ bs. calls_next (tokens true false bs) ≡ false) refl (λ bs. refl) (λ bs. refl) (λ bs. refl) (λ bs. refl) (λ bs. refl) rest e;
     signs = by_closing (λ bs. number_next (tokens true false bs) ≡ false) refl (λ bs. refl) (λ bs. refl) (λ bs. refl) (λ bs. refl) (λ bs. refl) rest e;
@@ -146,21 +146,21 @@ module _ (names : List (List ℕ)) (ops : Operators) (spelling : ℕ → ℕ) (i
     same = by_closing (λ bs. tokens true false bs ≡ tokens false false bs) refl (λ bs. refl) (λ bs. refl) (λ bs. refl) (λ bs. refl) (λ bs. refl) rest e;
   }
 
-  leaves : (a : ℕ) (rest : List Bit) → may_follow (atom a) rest ≡ true → Leaves a rest
+  leaves : (a : ℕ) (rest : List Spaced) → may_follow (atom a) rest ≡ true → Leaves a rest
   leaves a [] e = closing_leaves a [] e
-  leaves a (bit w ∷ rest) e = closing_leaves a (bit w ∷ rest) e
+  leaves a (one_word w ∷ rest) e = closing_leaves a (one_word w ∷ rest) e
   leaves a (blank ∷ rest) e = record { calls = none_called true rest; signs = none_signed false rest; role = no_prefix a (prefix_of ops a) (tokens false true rest) (no_operator ops a e).0; same = refl }
 
   -- terms
 
   -- the tokens of the term are told with its words, whatever may follow
   abbrev IsTold : Tree → Type 0
-  IsTold t = (behind_name behind_layout : Bool) (seen : List ℕ) (rest : List Bit) → may_follow t rest ≡ true
-      → roles_from names ops true seen (tokens behind_name behind_layout (bits t ++ rest)) ≡ told names spelling seen (words t) (behind rest)
+  IsTold t = (behind_name behind_layout : Bool) (seen : List ℕ) (rest : List Spaced) → may_follow t rest ≡ true
+      → roles_from names ops true seen (tokens behind_name behind_layout (spaced t ++ rest)) ≡ told names spelling seen (words t) (behind rest)
 
   abbrev AreTold : Trees → Type 0
-  AreTold ts = (behind_name behind_layout : Bool) (seen : List ℕ) (rest : List Bit) → closes rest ≡ true
-      → roles_from names ops true seen (tokens behind_name behind_layout (bits_of_all ts ++ rest)) ≡ told names spelling seen (words_of_all ts) (behind rest)
+  AreTold ts = (behind_name behind_layout : Bool) (seen : List ℕ) (rest : List Spaced) → closes rest ≡ true
+      → roles_from names ops true seen (tokens behind_name behind_layout (spaced_of_all ts ++ rest)) ≡ told names spelling seen (words_of_all ts) (behind rest)
 
   atom_told : (a : ℕ) → IsTold (atom a)
   atom_told a bn bl seen rest m =
@@ -169,28 +169,28 @@ module _ (names : List (List ℕ)) (ops : Operators) (spelling : ℕ → ℕ) (i
       name_told true bl seen a (word.Atom a) ts (operand_is a (word.Atom a) ts l.calls l.signs l.role) ∙ ap (λ us. word.Atom a ∷ roles_from names ops false seen us) l.same
 
   -- a term up to the word behind it
-  ended : (t : Tree) → IsTold t → (behind_layout : Bool) (seen : List ℕ) (w : Word) (rest : List Bit) → closes (bit w ∷ rest) ≡ true
-      → roles_from names ops true seen (tokens false behind_layout ((bits t ++ (bit w ∷ [])) ++ rest)) ≡ told names spelling seen (words t) (behind (bit w ∷ rest))
+  ended : (t : Tree) → IsTold t → (behind_layout : Bool) (seen : List ℕ) (w : Word) (rest : List Spaced) → closes (one_word w ∷ rest) ≡ true
+      → roles_from names ops true seen (tokens false behind_layout ((spaced t ++ (one_word w ∷ [])) ++ rest)) ≡ told names spelling seen (words t) (behind (one_word w ∷ rest))
   ended t told_t bl seen w rest e =
-      ap (λ bs. roles_from names ops true seen (tokens false bl bs)) (append_assoc (bits t) (bit w ∷ []) rest) ∙ told_t false bl seen (bit w ∷ rest) (closing_follows t (bit w ∷ rest) e)
+      ap (λ bs. roles_from names ops true seen (tokens false bl bs)) (append_assoc (spaced t) (one_word w ∷ []) rest) ∙ told_t false bl seen (one_word w ∷ rest) (closing_follows t (one_word w ∷ rest) e)
 
-  all_ended : (ts : Trees) → AreTold ts → (seen : List ℕ) (w : Word) (rest : List Bit) → closes (bit w ∷ rest) ≡ true
-      → roles_from names ops true seen (tokens false false ((bits_of_all ts ++ (bit w ∷ [])) ++ rest)) ≡ told names spelling seen (words_of_all ts) (behind (bit w ∷ rest))
+  all_ended : (ts : Trees) → AreTold ts → (seen : List ℕ) (w : Word) (rest : List Spaced) → closes (one_word w ∷ rest) ≡ true
+      → roles_from names ops true seen (tokens false false ((spaced_of_all ts ++ (one_word w ∷ [])) ++ rest)) ≡ told names spelling seen (words_of_all ts) (behind (one_word w ∷ rest))
   all_ended ts told_ts seen w rest e =
-      ap (λ bs. roles_from names ops true seen (tokens false false bs)) (append_assoc (bits_of_all ts) (bit w ∷ []) rest) ∙ told_ts false false seen (bit w ∷ rest) e
+      ap (λ bs. roles_from names ops true seen (tokens false false bs)) (append_assoc (spaced_of_all ts) (one_word w ∷ []) rest) ∙ told_ts false false seen (one_word w ∷ rest) e
 
   call_told : (f : ℕ) (ts : Trees) → AreTold ts → IsTold (call f ts)
   call_told f ts told_ts bn bl seen rest m =
-      name_told true bl seen f (word.Call f) (tokens true false (bit word.Paren ∷ ((bits_of_all ts ++ (bit word.CloseParen ∷ [])) ++ rest))) (λ is_minus. refl)
+      name_told true bl seen f (word.Call f) (tokens true false (one_word word.Paren ∷ ((spaced_of_all ts ++ (one_word word.CloseParen ∷ [])) ++ rest))) (λ is_minus. refl)
       ∙ ap (λ ws. word.Call f ∷ word.Paren ∷ ws) (all_ended ts told_ts seen word.CloseParen rest refl ∙ sym (told_both names spelling seen (words_of_all ts) (word.CloseParen ∷ []) (behind rest)))
 
   parens_told : (t : Tree) → IsTold t → IsTold (parens t)
   parens_told t told_t bn bl seen rest m = by bn
     where
-      inner : roles_from names ops true seen (tokens false false ((bits t ++ (bit word.CloseParen ∷ [])) ++ rest)) ≡ told names spelling seen (words t ++ (word.CloseParen ∷ [])) (behind rest)
+      inner : roles_from names ops true seen (tokens false false ((spaced t ++ (one_word word.CloseParen ∷ [])) ++ rest)) ≡ told names spelling seen (words t ++ (word.CloseParen ∷ [])) (behind rest)
       inner = ended t told_t false seen word.CloseParen rest refl ∙ sym (told_both names spelling seen (words t) (word.CloseParen ∷ []) (behind rest))
 
-      by : (b : Bool) → roles_from names ops true seen (tokens b bl (bits (parens t) ++ rest)) ≡ told names spelling seen (words (parens t)) (behind rest)
+      by : (b : Bool) → roles_from names ops true seen (tokens b bl (spaced (parens t) ++ rest)) ≡ told names spelling seen (words (parens t)) (behind rest)
       by true = ap (λ ws. word.Paren ∷ ws) inner
       by false = ap (λ ws. word.Paren ∷ ws) inner
 
@@ -205,51 +205,51 @@ module _ (names : List (List ℕ)) (ops : Operators) (spelling : ℕ → ℕ) (i
   tail_told : (ts : Trees) (t : Tree) → AreTold ts → IsTold t → IsTold (items_and_tail ts t)
   tail_told ts t told_ts told_t bn bl seen rest m =
       ap (λ ws. word.OpenList ∷ ws) (
-      ap (λ bs. roles_from names ops true seen (tokens false false bs)) (append_assoc (bits_of_all ts) (bit word.Bar ∷ (bits t ++ (bit word.CloseList ∷ []))) rest)
-      ∙ told_ts false false seen (bit word.Bar ∷ ((bits t ++ (bit word.CloseList ∷ [])) ++ rest)) refl
+      ap (λ bs. roles_from names ops true seen (tokens false false bs)) (append_assoc (spaced_of_all ts) (one_word word.Bar ∷ (spaced t ++ (one_word word.CloseList ∷ []))) rest)
+      ∙ told_ts false false seen (one_word word.Bar ∷ ((spaced t ++ (one_word word.CloseList ∷ [])) ++ rest)) refl
       ∙ told_same names spelling seen (words_of_all ts) _ _ (λ s. ap (λ ws. word.Bar ∷ ws) (ended t told_t false s word.CloseList rest refl ∙ sym (told_both names spelling s (words t) (word.CloseList ∷ []) (behind rest))))
       ∙ sym (told_both names spelling seen (words_of_all ts) (word.Bar ∷ (words t ++ (word.CloseList ∷ []))) (behind rest)))
 
   more_told : (t : Tree) (ts : Trees) → IsTold t → AreTold ts → AreTold (more t ts)
   more_told t ts told_t told_ts bn bl seen rest e =
-      ap (λ bs. roles_from names ops true seen (tokens bn bl bs)) (append_assoc (bits t) (bit word.Comma ∷ bits_of_all ts) rest)
-      ∙ told_t bn bl seen (bit word.Comma ∷ (bits_of_all ts ++ rest)) (closing_follows t (bit word.Comma ∷ (bits_of_all ts ++ rest)) refl)
+      ap (λ bs. roles_from names ops true seen (tokens bn bl bs)) (append_assoc (spaced t) (one_word word.Comma ∷ spaced_of_all ts) rest)
+      ∙ told_t bn bl seen (one_word word.Comma ∷ (spaced_of_all ts ++ rest)) (closing_follows t (one_word word.Comma ∷ (spaced_of_all ts ++ rest)) refl)
       ∙ told_same names spelling seen (words t) _ _ (λ s. ap (λ ws. word.Comma ∷ ws) (told_ts false false s rest e))
       ∙ sym (told_both names spelling seen (words t) (word.Comma ∷ words_of_all ts) (behind rest))
 
   before_told : (f : ℕ) (t : Tree) (o : Option Op) → prefix_of ops f ≡ o → takes_one o (priority ops t) ≡ true → fits ops t ≡ true → is_guarded ops t ≡ true → is_operand ops t ≡ true → IsTold t → IsTold (before f t)
   before_told f t None d k fit guarded operand told_t bn bl seen rest m = absurd (false≢true k)
   before_told f t (Some o) d k fit guarded operand told_t bn bl seen rest m =
-      let ts = tokens false true (bits t ++ rest) in
+      let ts = tokens false true (spaced t ++ rest) in
       let stays : stands_alone ops (right_limit o) ts ≡ false = holds ops spelling is_bare (right_limit o) t false true rest fit guarded operand (leb-true _ _ k) in
       let role_is : operand_role ops f (prefix_of ops f) ts ≡ word.Before f = ap (λ x. operand_role ops f x ts) d ∙ cond-false (stands_alone ops (right_limit o) ts) _ _ stays in
-      name_told true bl seen f (word.Before f) ts (operand_is f (word.Before f) ts (none_called true (bits t ++ rest)) (none_signed false (bits t ++ rest)) role_is)
+      name_told true bl seen f (word.Before f) ts (operand_is f (word.Before f) ts (none_called true (spaced t ++ rest)) (none_signed false (spaced t ++ rest)) role_is)
       ∙ ap (λ ws. word.Before f ∷ ws) (told_t false true seen rest (operand_follows t (before f t) rest operand m))
 
   -- the word of an infix operator and its right argument
-  right_told : (f : ℕ) (u : Tree) → IsTold u → (seen : List ℕ) (rest : List Bit) → may_follow u rest ≡ true
-      → behind (infix_bits f ++ (bits u ++ rest)) seen ≡ told names spelling seen (infix_word f ∷ words u) (behind rest)
+  right_told : (f : ℕ) (u : Tree) → IsTold u → (seen : List ℕ) (rest : List Spaced) → may_follow u rest ≡ true
+      → behind (spaced_infix f ++ (spaced u ++ rest)) seen ≡ told names spelling seen (infix_word f ∷ words u) (behind rest)
   right_told f u told_u seen rest m = by (f == fixed.COMMA) (f == fixed.BAR)
     where
-      by : (b c : Bool) → behind ((if b then bit word.Comma ∷ [] else if c then blank ∷ bit word.Bar ∷ blank ∷ [] else blank ∷ bit (word.Between f) ∷ blank ∷ []) ++ (bits u ++ rest)) seen
+      by : (b c : Bool) → behind ((if b then one_word word.Comma ∷ [] else if c then blank ∷ one_word word.Bar ∷ blank ∷ [] else blank ∷ one_word (word.Between f) ∷ blank ∷ []) ++ (spaced u ++ rest)) seen
           ≡ told names spelling seen ((if b then word.Comma else if c then word.Bar else word.Between f) ∷ words u) (behind rest)
       by true c = ap (λ ws. word.Comma ∷ ws) (told_u false false seen rest m)
       by false true = ap (λ ws. word.Bar ∷ ws) (told_u false true seen rest m)
-      by false false = name_told false true seen f (word.Between f) (tokens false true (bits u ++ rest)) (λ is_minus. refl) ∙ ap (λ ws. word.Between f ∷ ws) (told_u false true seen rest m)
+      by false false = name_told false true seen f (word.Between f) (tokens false true (spaced u ++ rest)) (λ is_minus. refl) ∙ ap (λ ws. word.Between f ∷ ws) (told_u false true seen rest m)
 
   -- an infix operator may stand behind its left argument
-  infix_follows : (f : ℕ) (t : Tree) (bs : List Bit) → is_operand ops t ≡ true → may_follow t (infix_bits f ++ bs) ≡ true
+  infix_follows : (f : ℕ) (t : Tree) (bs : List Spaced) → is_operand ops t ≡ true → may_follow t (spaced_infix f ++ bs) ≡ true
   infix_follows f t bs e = by (f == fixed.COMMA) (f == fixed.BAR)
     where
-      by : (b c : Bool) → may_follow t ((if b then bit word.Comma ∷ [] else if c then blank ∷ bit word.Bar ∷ blank ∷ [] else blank ∷ bit (word.Between f) ∷ blank ∷ []) ++ bs) ≡ true
+      by : (b c : Bool) → may_follow t ((if b then one_word word.Comma ∷ [] else if c then blank ∷ one_word word.Bar ∷ blank ∷ [] else blank ∷ one_word (word.Between f) ∷ blank ∷ []) ++ bs) ≡ true
       by true c = refl
       by false true = e
       by false false = e
 
   between_told : (f : ℕ) (t u : Tree) → is_operand ops t ≡ true → is_operand ops u ≡ true → IsTold t → IsTold u → IsTold (between f t u)
   between_told f t u left right told_t told_u bn bl seen rest m =
-      ap (λ bs. roles_from names ops true seen (tokens bn bl bs)) (append_assoc (bits t) (infix_bits f ++ bits u) rest ∙ ap (λ bs. bits t ++ bs) (append_assoc (infix_bits f) (bits u) rest))
-      ∙ told_t bn bl seen (infix_bits f ++ (bits u ++ rest)) (infix_follows f t (bits u ++ rest) left)
+      ap (λ bs. roles_from names ops true seen (tokens bn bl bs)) (append_assoc (spaced t) (spaced_infix f ++ spaced u) rest ∙ ap (λ bs. spaced t ++ bs) (append_assoc (spaced_infix f) (spaced u) rest))
+      ∙ told_t bn bl seen (spaced_infix f ++ (spaced u ++ rest)) (infix_follows f t (spaced u ++ rest) left)
       ∙ told_same names spelling seen (words t) _ _ (λ s. right_told f u told_u s rest (operand_follows u (between f t u) rest right m))
       ∙ sym (told_both names spelling seen (words t) (infix_word f ∷ words u) (behind rest))
 
@@ -281,6 +281,6 @@ module _ (names : List (List ℕ)) (ops : Operators) (spelling : ℕ → ℕ) (i
     are_told (more t ts) f g = more_told t ts (is_told t (and_parts _ _ (and_parts _ _ f).0).1 (and_parts _ _ g).0) (are_told ts (and_parts _ _ f).1 (and_parts _ _ g).1)
 
   -- the roles of what is printed of a tree are its words, with its variables numbered
-  pub printed_roles : (t : Tree) → fits ops t ≡ true → is_guarded ops t ≡ true → roles names ops (tokens_of spelling is_bare false false (bits t)) ≡ numbered_words names spelling [] (words t)
+  pub printed_roles : (t : Tree) → fits ops t ≡ true → is_guarded ops t ≡ true → roles names ops (tokens_of spelling is_bare false false (spaced t)) ≡ numbered_words names spelling [] (words t)
   printed_roles t f g =
-      ap (λ bs. roles names ops (tokens false false bs)) (sym (append-nil (bits t))) ∙ is_told t f g false false [] [] (closing_follows t [] refl) ∙ told_alone names spelling [] (words t)
+      ap (λ bs. roles names ops (tokens false false bs)) (sym (append-nil (spaced t))) ∙ is_told t f g false false [] [] (closing_follows t [] refl) ∙ told_alone names spelling [] (words t)

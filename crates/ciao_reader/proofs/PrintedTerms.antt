@@ -16,7 +16,7 @@ use Rattle.ciao_reader.specs.Derivations.{words, priority, fits}
 use Rattle.ciao_reader.specs.Readings.{term_of}
 use Rattle.ciao_reader.specs.ReadingBack.{AreNames, readable_step, is_readable}
 use Rattle.ciao_reader.proofs.PrintedTrees.{Derived, derived_step, tree_of, is_guarded}
-use Rattle.ciao_reader.proofs.PrintedWords.{bits, bytes_of, are_within, has_none_large}
+use Rattle.ciao_reader.proofs.PrintedWords.{spaced, bytes_of, are_within, has_none_large}
 use Rattle.ciao_reader.proofs.PrintedTermsForm.{priority_within, formed_fits, formed_guarded, formed_within, formed_none_large}
 use Rattle.ciao_reader.proofs.PrintedTermsCases.{Agrees, variable_agrees, integer_agrees, atom_agrees}
 use Rattle.ciao_reader.proofs.PrintedTermsCompounds.{IsShown, shows, derives, compound_agrees}
@@ -67,10 +67,10 @@ module _ (names : List (List ℕ)) (ops : Operators) (t : Term) (are : AreNames 
   pub printed_guarded : is_guarded ops (tree_of ops t) ≡ true
   printed_guarded = formed_guarded ops (length names) (tree_of ops t) agrees.formed
 
-  pub printed_text : bytes_of names (bits (tree_of ops t)) ≡ Printed names ops true t
+  pub printed_text : bytes_of names (spaced (tree_of ops t)) ≡ Printed names ops true t
   printed_text = sym agrees.text
 
-  pub printed_within : are_within (length names) (bits (tree_of ops t)) ≡ true
+  pub printed_within : are_within (length names) (spaced (tree_of ops t)) ≡ true
   printed_within = formed_within ops (length names) (tree_of ops t) agrees.formed
 
   pub printed_none_large : has_none_large false (words (tree_of ops t)) ≡ true

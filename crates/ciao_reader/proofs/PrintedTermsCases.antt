@@ -19,7 +19,7 @@ use Rattle.ciao_reader.specs.Derivations.{Tree, number, negative, variable, atom
 use Rattle.ciao_reader.specs.Readings.{term_of}
 use Rattle.ciao_reader.specs.ReadingBack.{has_64_bits}
 use Rattle.ciao_reader.proofs.PrintedTrees.{Derived, is_operator, is_operator_atom, at_argument, at_operand, plain_derived, atom_derived, integer_tree, is_operand}
-use Rattle.ciao_reader.proofs.PrintedWords.{bits}
+use Rattle.ciao_reader.proofs.PrintedWords.{spaced}
 use Rattle.ciao_reader.proofs.PrintedTermsForm.{IsFormed}
 use Rattle.ciao_reader.proofs.PrintedTermsTexts.{tree_text, text_before, text_there, is_list, IsArgument, same_meaning, within_limit, within_argument, operand_there, formed_there}
 
@@ -87,7 +87,7 @@ module _ (names : List (List ℕ)) (ops : Operators) where
         formed = formed;
         tail_text = λ item.
             ap (λ cs. 91 ∷ cs)
-            (text_before names (bits item) _ ∙ ap (λ cs. tree_text names item ++ (124 ∷ cs)) (text_before names (bits (at_argument ops tree)) _)
+            (text_before names (spaced item) _ ∙ ap (λ cs. tree_text names item ++ (124 ∷ cs)) (text_before names (spaced (at_argument ops tree)) _)
             ∙ ap (λ cs. tree_text names item ++ cs) (ap after_bar (sym (there_text s tree text has_priority)) ∙ sym as_tail));
         tail_list = λ item. refl;
         tail_meaning = λ item. ap (λ u. term.Node fixed.CELL (term_of item ∷ u ∷ [])) (same_meaning (nat_lt 999 (priority ops tree)) tree ∙ meaning);
@@ -117,7 +117,7 @@ module _ (names : List (List ℕ)) (ops : Operators) where
       operator = never_operator fixed.NIL refl refl refl;
       meaning = refl;
       formed = tt;
-      tail_text = λ item. ap (λ cs. 91 ∷ cs) (text_before names (bits item) _);
+      tail_text = λ item. ap (λ cs. 91 ∷ cs) (text_before names (spaced item) _);
       tail_list = λ item. refl;
       tail_meaning = λ item. refl;
       tail_formed = λ item h. h;

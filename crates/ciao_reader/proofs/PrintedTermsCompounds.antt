@@ -16,7 +16,7 @@ use Rattle.ciao_reader.specs.declared.words.Word.TheVariants as word
 use Rattle.ciao_reader.specs.Derivations.{call, braces, before, between, op_priority, priority, takes_one, takes_two}
 use Rattle.ciao_reader.specs.Readings.{term_of}
 use Rattle.ciao_reader.proofs.PrintedTrees.{Derived, trees_of, at_argument, at_operand, plain_derived, cell_derived, argument_trees, call_derived, one_derived, two_derived, compound_derived, derived_of}
-use Rattle.ciao_reader.proofs.PrintedWords.{bit, bits, bits_of_all, infix_bits, bytes_of}
+use Rattle.ciao_reader.proofs.PrintedWords.{one_word, spaced, spaced_of_all, spaced_infix, bytes_of}
 use Rattle.ciao_reader.proofs.PrintedTermsTexts.{tree_text, text_before, text_of_trees, text_with_first, infix_text, list_with_first, meaning_with_first, list_priority, list_no_operator, formed_with_first, IsArgument, formed_trees, count_of_trees, meaning_of_trees}
 use Rattle.ciao_reader.proofs.PrintedTermsCases.{Agrees, plain, argument_text, argument_meaning, argument_formed, operand_text, operand_meaning, operand_within, operand_is, operand_formed}
 
@@ -60,10 +60,10 @@ module _ (names : List (List ℕ)) (ops : Operators) where
       let others = argument_trees ops (map derives ts) in
       let name = name_shown names ops true f in
       let inside = shown.with_commas (map shown.at_argument (map shows (t ∷ ts))) in
-      let inner : inside ≡ bytes_of names (bits_of_all (trees_of first others)) = ap shown.with_commas (arguments_text (t ∷ ts) h) ∙ sym (text_of_trees names first others) in
+      let inner : inside ≡ bytes_of names (spaced_of_all (trees_of first others)) = ap shown.with_commas (arguments_text (t ∷ ts) h) ∙ sym (text_of_trees names first others) in
       plain names ops (term.Node f (t ∷ ts)) (call_shown names ops true f (map shows (t ∷ ts))) (call f (trees_of first others))
       (append_assoc (name ++ codes "(") inside (codes ")") ∙ append_assoc name (codes "(") (inside ++ codes ")")
-      ∙ ap (λ cs. name ++ (40 ∷ cs)) (ap (λ cs. cs ++ codes ")") inner ∙ sym (text_before names (bits_of_all (trees_of first others)) (bit word.CloseParen ∷ []))))
+      ∙ ap (λ cs. name ++ (40 ∷ cs)) (ap (λ cs. cs ++ codes ")") inner ∙ sym (text_before names (spaced_of_all (trees_of first others)) (one_word word.CloseParen ∷ []))))
       refl refl (ap (term.Node f) (meaning_of_trees first others ∙ arguments_meaning (t ∷ ts) h))
       (known, ap (λ n. nat_le n 255) (count_of_trees first others ∙ ap suc (argument_count ts)) ∙ few, formed_trees ops (length names) first others (arguments_formed (t ∷ ts) h).0 (arguments_formed (t ∷ ts) h).1) refl
 
@@ -92,7 +92,7 @@ module _ (names : List (List ℕ)) (ops : Operators) where
   braces_agree : (t : Term) → IsShown t → Agrees names ops (term.Node fixed.BRACES (t ∷ [])) (plain_shown 0 (codes "{" ++ (shows t).text ++ codes "}")) (plain_derived ops (braces (derives t).tree))
   braces_agree t a =
       plain names ops (term.Node fixed.BRACES (t ∷ [])) _ (braces (derives t).tree)
-      (ap (λ cs. 123 ∷ cs) (ap (λ cs. cs ++ codes "}") a.text ∙ sym (text_before names (bits (derives t).tree) (bit word.CloseCurly ∷ []))))
+      (ap (λ cs. 123 ∷ cs) (ap (λ cs. cs ++ codes "}") a.text ∙ sym (text_before names (spaced (derives t).tree) (one_word word.CloseCurly ∷ []))))
       refl refl (ap (λ u. term.Node fixed.BRACES (u ∷ [])) a.meaning) a.formed refl
 
   -- two arguments
@@ -109,9 +109,9 @@ module _ (names : List (List ℕ)) (ops : Operators) where
       (append_assoc left_text (shown.infix_name names ops true f) right_text
       ∙ ap (λ cs. cs ++ (shown.infix_name names ops true f ++ right_text)) (operand_text names ops a (left_limit o))
       ∙ ap (λ cs. tree_text names left ++ cs)
-      (ap (λ cs. cs ++ right_text) (infix_text names ops f) ∙ ap (λ cs. bytes_of names (infix_bits f) ++ cs) (operand_text names ops b (right_limit o))
-      ∙ sym (text_before names (infix_bits f) (bits right)))
-      ∙ sym (text_before names (bits left) (infix_bits f ++ bits right)))
+      (ap (λ cs. cs ++ right_text) (infix_text names ops f) ∙ ap (λ cs. bytes_of names (spaced_infix f) ++ cs) (operand_text names ops b (right_limit o))
+      ∙ sym (text_before names (spaced_infix f) (spaced right)))
+      ∙ sym (text_before names (spaced left) (spaced_infix f ++ spaced right)))
       (sym (ap op_priority e)) refl
       (ap (λ v. term.Node f (v ∷ term_of right ∷ [])) (operand_meaning names ops a (left_limit o))
       ∙ ap (λ v. term.Node f (t ∷ v ∷ [])) (operand_meaning names ops b (right_limit o))) (

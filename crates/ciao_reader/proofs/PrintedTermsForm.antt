@@ -13,7 +13,7 @@ use Rattle.ciao_reader.specs.declared.words.Word.TheVariants as word
 use Rattle.ciao_reader.specs.Derivations.{Tree, Trees, number, negative, variable, text, atom, no_items, no_braces, call, parens, braces, items, items_and_tail, before, between, one, more, words, words_of_all, infix_word, op_priority, priority, takes_one, takes_two, fits, all_fit}
 use Rattle.ciao_reader.specs.Derivations as tree
 use Rattle.ciao_reader.proofs.PrintedTrees.{is_guarded, all_guarded, is_operand}
-use Rattle.ciao_reader.proofs.PrintedWords.{Bit, blank, bit, bits, bits_of_all, infix_bits, are_within, has_none_large}
+use Rattle.ciao_reader.proofs.PrintedWords.{Spaced, blank, one_word, spaced, spaced_of_all, spaced_infix, are_within, has_none_large}
 
 module _ (ops : Operators) (count : ℕ) where
   abbrev mutual
@@ -90,22 +90,22 @@ module _ (ops : Operators) (count : ℕ) where
 
 -- names and numbers in range
 
-within_both : (count : ℕ) (xs ys : List Bit) → are_within count xs ≡ true → are_within count ys ≡ true → are_within count (xs ++ ys) ≡ true
+within_both : (count : ℕ) (xs ys : List Spaced) → are_within count xs ≡ true → are_within count ys ≡ true → are_within count (xs ++ ys) ≡ true
 within_both count [] ys e f = f
 within_both count (blank ∷ xs) ys e f = within_both count xs ys e f
-within_both count (bit w ∷ xs) ys e f = and_from _ _ (and_parts _ _ e).0 (within_both count xs ys (and_parts _ _ e).1 f)
+within_both count (one_word w ∷ xs) ys e f = and_from _ _ (and_parts _ _ e).0 (within_both count xs ys (and_parts _ _ e).1 f)
 
-infix_within_bits : (count f : ℕ) (bs : List Bit) → nat_lt f count ≡ true → are_within count bs ≡ true → are_within count (infix_bits f ++ bs) ≡ true
-infix_within_bits count f bs l e = by (f == fixed.COMMA) (f == fixed.BAR)
+infix_within_spaced : (count f : ℕ) (bs : List Spaced) → nat_lt f count ≡ true → are_within count bs ≡ true → are_within count (spaced_infix f ++ bs) ≡ true
+infix_within_spaced count f bs l e = by (f == fixed.COMMA) (f == fixed.BAR)
   where
-    by : (b c : Bool) → are_within count ((if b then bit word.Comma ∷ [] else if c then blank ∷ bit word.Bar ∷ blank ∷ [] else blank ∷ bit (word.Between f) ∷ blank ∷ []) ++ bs) ≡ true
+    by : (b c : Bool) → are_within count ((if b then one_word word.Comma ∷ [] else if c then blank ∷ one_word word.Bar ∷ blank ∷ [] else blank ∷ one_word (word.Between f) ∷ blank ∷ []) ++ bs) ≡ true
     by true c = e
     by false true = e
     by false false = and_from _ _ l e
 
 module _ (ops : Operators) (count : ℕ) where
   mutual
-    pub formed_within : (t : Tree) → IsFormed ops count t → are_within count (bits t) ≡ true
+    pub formed_within : (t : Tree) → IsFormed ops count t → are_within count (spaced t) ≡ true
     formed_within (number n) h = and_from _ _ (le-leb _ _ (omega (arith, ltb-true _ _ h))) refl
     formed_within (negative n) h = and_from _ _ h refl
     formed_within (variable v) h = and_from _ _ h refl
@@ -113,17 +113,17 @@ module _ (ops : Operators) (count : ℕ) where
     formed_within (atom a) h = and_from _ _ h refl
     formed_within no_items h = refl
     formed_within no_braces h = refl
-    formed_within (call f ts) h = and_from _ _ h.0 (within_both count (bits_of_all ts) _ (all_formed_within ts h.2) refl)
-    formed_within (parens t) h = within_both count (bits t) _ (formed_within t h) refl
-    formed_within (braces t) h = within_both count (bits t) _ (formed_within t h) refl
-    formed_within (items ts) h = within_both count (bits_of_all ts) _ (all_formed_within ts h) refl
-    formed_within (items_and_tail ts t) h = within_both count (bits_of_all ts) _ (all_formed_within ts h.0) (within_both count (bits t) _ (formed_within t h.2) refl)
+    formed_within (call f ts) h = and_from _ _ h.0 (within_both count (spaced_of_all ts) _ (all_formed_within ts h.2) refl)
+    formed_within (parens t) h = within_both count (spaced t) _ (formed_within t h) refl
+    formed_within (braces t) h = within_both count (spaced t) _ (formed_within t h) refl
+    formed_within (items ts) h = within_both count (spaced_of_all ts) _ (all_formed_within ts h) refl
+    formed_within (items_and_tail ts t) h = within_both count (spaced_of_all ts) _ (all_formed_within ts h.0) (within_both count (spaced t) _ (formed_within t h.2) refl)
     formed_within (before f t) h = and_from _ _ h.0 (formed_within t h.3)
-    formed_within (between f t u) h = within_both count (bits t) _ (formed_within t h.4) (infix_within_bits count f (bits u) h.0 (formed_within u h.5))
+    formed_within (between f t u) h = within_both count (spaced t) _ (formed_within t h.4) (infix_within_spaced count f (spaced u) h.0 (formed_within u h.5))
 
-    all_formed_within : (ts : Trees) → AreFormed ops count ts → are_within count (bits_of_all ts) ≡ true
+    all_formed_within : (ts : Trees) → AreFormed ops count ts → are_within count (spaced_of_all ts) ≡ true
     all_formed_within (one t) h = formed_within t h.1
-    all_formed_within (more t ts) h = within_both count (bits t) _ (formed_within t h.1) (all_formed_within ts h.2)
+    all_formed_within (more t ts) h = within_both count (spaced t) _ (formed_within t h.1) (all_formed_within ts h.2)
 
 -- 2^63 stands behind a sign only
 

@@ -16,7 +16,7 @@ use Rattle.ciao_reader.specs.Derivations.{Tree, Trees, atom, items, items_and_ta
 use Rattle.ciao_reader.specs.Derivations as tree
 use Rattle.ciao_reader.specs.Readings.{term_of, terms_of}
 use Rattle.ciao_reader.proofs.PrintedTrees.{with_first, trees_of, in_parens_where, is_operator_atom, is_operand}
-use Rattle.ciao_reader.proofs.PrintedWords.{Bit, blank, bit, bits, bits_of_all, infix_bits, bit_bytes, bytes_of}
+use Rattle.ciao_reader.proofs.PrintedWords.{Spaced, blank, one_word, spaced, spaced_of_all, spaced_infix, spaced_bytes, bytes_of}
 use Rattle.ciao_reader.proofs.PrintedTermsForm.{IsFormed, AreFormed}
 
 -- in parentheses or not
@@ -105,31 +105,31 @@ module _ (ops : Operators) where
 
 module _ (names : List (List ℕ)) where
   abbrev pub tree_text : Tree → List ℕ
-  tree_text t = bytes_of names (bits t)
+  tree_text t = bytes_of names (spaced t)
 
-  pub text_before : (xs ys : List Bit) → bytes_of names (xs ++ ys) ≡ bytes_of names xs ++ bytes_of names ys
-  text_before xs ys = flat_map-append (bit_bytes names) xs ys
+  pub text_before : (xs ys : List Spaced) → bytes_of names (xs ++ ys) ≡ bytes_of names xs ++ bytes_of names ys
+  text_before xs ys = flat_map-append (spaced_bytes names) xs ys
 
   pub text_there : (b : Bool) (t : Tree) → shown.in_parens_where b (tree_text t) ≡ tree_text (in_parens_where b t)
-  text_there true t = ap (λ cs. 40 ∷ cs) (sym (text_before (bits t) (bit word.CloseParen ∷ [])))
+  text_there true t = ap (λ cs. 40 ∷ cs) (sym (text_before (spaced t) (one_word word.CloseParen ∷ [])))
   text_there false t = refl
 
-  pub text_of_trees : (t : Tree) (ts : List Tree) → bytes_of names (bits_of_all (trees_of t ts)) ≡ with_commas (tree_text t ∷ map tree_text ts)
+  pub text_of_trees : (t : Tree) (ts : List Tree) → bytes_of names (spaced_of_all (trees_of t ts)) ≡ with_commas (tree_text t ∷ map tree_text ts)
   text_of_trees t [] = sym (append-nil (tree_text t))
-  text_of_trees t (u ∷ us) = text_before (bits t) (bit word.Comma ∷ bits_of_all (trees_of u us)) ∙ ap (λ cs. tree_text t ++ (44 ∷ cs)) (text_of_trees u us)
+  text_of_trees t (u ∷ us) = text_before (spaced t) (one_word word.Comma ∷ spaced_of_all (trees_of u us)) ∙ ap (λ cs. tree_text t ++ (44 ∷ cs)) (text_of_trees u us)
 
   pub text_with_first : (first whole : Tree) → is_list whole ≡ true → tree_text (with_first first whole) ≡ 91 ∷ (tree_text first ++ (44 ∷ drop 1 (tree_text whole)))
   text_with_first first (items ts) e =
-      ap (λ cs. 91 ∷ cs) (ap (bytes_of names) (append_assoc (bits first) (bit word.Comma ∷ bits_of_all ts) (bit word.CloseList ∷ [])) ∙ text_before (bits first) _)
+      ap (λ cs. 91 ∷ cs) (ap (bytes_of names) (append_assoc (spaced first) (one_word word.Comma ∷ spaced_of_all ts) (one_word word.CloseList ∷ [])) ∙ text_before (spaced first) _)
   text_with_first first (items_and_tail ts t) e =
-      ap (λ cs. 91 ∷ cs) (ap (bytes_of names) (append_assoc (bits first) (bit word.Comma ∷ bits_of_all ts) (bit word.Bar ∷ (bits t ++ (bit word.CloseList ∷ [])))) ∙ text_before (bits first) _)
+      ap (λ cs. 91 ∷ cs) (ap (bytes_of names) (append_assoc (spaced first) (one_word word.Comma ∷ spaced_of_all ts) (one_word word.Bar ∷ (spaced t ++ (one_word word.CloseList ∷ [])))) ∙ text_before (spaced first) _)
   text_with_first first other e = absurd (false≢true e)
 
-  pub infix_text : (ops : Operators) (f : ℕ) → infix_name names ops true f ≡ bytes_of names (infix_bits f)
+  pub infix_text : (ops : Operators) (f : ℕ) → infix_name names ops true f ≡ bytes_of names (spaced_infix f)
   infix_text ops f = by (f == fixed.COMMA) (f == fixed.BAR)
     where
       by : (b c : Bool) → (if b then codes "," else if c then codes " | " else codes " " ++ shown.name_shown names ops true f ++ codes " ")
-          ≡ bytes_of names (if b then bit word.Comma ∷ [] else if c then blank ∷ bit word.Bar ∷ blank ∷ [] else blank ∷ bit (word.Between f) ∷ blank ∷ [])
+          ≡ bytes_of names (if b then one_word word.Comma ∷ [] else if c then blank ∷ one_word word.Bar ∷ blank ∷ [] else blank ∷ one_word (word.Between f) ∷ blank ∷ [])
       by true c = refl
       by false true = refl
       by false false = refl

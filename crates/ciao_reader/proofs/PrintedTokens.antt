@@ -22,7 +22,7 @@ use Rattle.ciao_reader.specs.Roles.{calls_next, number_next, is_above, goes_on, 
 use Rattle.ciao_reader.specs.Sentences.{is_end}
 use Rattle.ciao_reader.specs.ReadingBack.{AreNames}
 use Rattle.ciao_reader.proofs.PrintedNames.{place_kept, minus_kept}
-use Rattle.ciao_reader.proofs.PrintedWords.{Bit, blank, bit, may_precede, are_apart, is_within, are_within, variable_text, is_bare, name_shape, shape_of, spelled, pieces_of, name_kind, kind_of, is_naming, tokens_of}
+use Rattle.ciao_reader.proofs.PrintedWords.{Spaced, blank, one_word, may_precede, are_apart, is_within, are_within, variable_text, is_bare, name_shape, shape_of, spelled, pieces_of, name_kind, kind_of, is_naming, tokens_of}
 
 abbrev placeless : TokenKind → Bool → Token
 placeless k behind_layout = record { kind = k; line = 0; start = 0; end = 0; layout_before = behind_layout }
@@ -126,18 +126,18 @@ module _ (names after : List (List ℕ)) (are : AreNames names) (begins : IsPref
   naming_same (word.Between f) = naming_shape f
   naming_same other = refl
 
-  tokens_same : (at : At) (bs : List Bit) (bytes : List ℕ) → are_within (length names) bs ≡ true
+  tokens_same : (at : At) (bs : List Spaced) (bytes : List ℕ) → are_within (length names) bs ≡ true
       → without_places (tokens_from after at (pieces_of names bs) bytes) ≡ tokens_of (spelling after) (is_bare names) at.is_behind_name at.is_behind_layout bs
   tokens_same at [] bytes within = refl
   tokens_same at (blank ∷ bs) bytes within = tokens_same (behind at (layout 1) bytes) bs (drop 1 bytes) within
-  tokens_same at (bit w ∷ bs) bytes within =
+  tokens_same at (one_word w ∷ bs) bytes within =
       let n = length (spelled names w) in
       ap (λ k. placeless k at.is_behind_layout ∷ without_places (tokens_from after (behind at (token n (shape_of names w)) bytes) (pieces_of names bs) (drop n bytes))) (kind_same w at.is_behind_name (and_parts _ _ within).0)
       ∙ ap (λ ts. placeless (kind_of (spelling after) (is_bare names) at.is_behind_name w) at.is_behind_layout ∷ ts)
       (tokens_same (behind at (token n (shape_of names w)) bytes) bs (drop n bytes) (and_parts _ _ within).1 ∙ ap (λ b. tokens_of (spelling after) (is_bare names) b false bs) (naming_same w))
 
   -- the roles of the tokens are those of the tokens of the words
-  pub same_roles : (ops : Operators) (at : At) (bs : List Bit) (bytes : List ℕ) → are_within (length names) bs ≡ true
+  pub same_roles : (ops : Operators) (at : At) (bs : List Spaced) (bytes : List ℕ) → are_within (length names) bs ≡ true
       → roles_from after ops true [] (tokens_from after at (pieces_of names bs) bytes) ≡ roles_from after ops true [] (tokens_of (spelling after) (is_bare names) at.is_behind_name at.is_behind_layout bs)
   same_roles ops at bs bytes within =
       sym (roles_same ops after true [] (tokens_from after at (pieces_of names bs) bytes)) ∙ ap (roles_from after ops true []) (tokens_same at bs bytes within)
@@ -149,7 +149,7 @@ module _ (names after : List (List ℕ)) (are : AreNames names) (begins : IsPref
       by true = refl
       by false = refl
 
-  no_end_word : (w : Word) (bs : List Bit) (behind_name behind_layout : Bool) → may_precede (bit w) bs ≡ true → is_end (placeless (kind_of (spelling after) (is_bare names) behind_name w) behind_layout) ≡ false
+  no_end_word : (w : Word) (bs : List Spaced) (behind_name behind_layout : Bool) → may_precede (one_word w) bs ≡ true → is_end (placeless (kind_of (spelling after) (is_bare names) behind_name w) behind_layout) ≡ false
   no_end_word (word.Atom f) bs behind_name behind_layout may = no_end_name f behind_layout
   no_end_word (word.Call f) bs behind_name behind_layout may = no_end_name f behind_layout
   no_end_word (word.Before f) bs behind_name behind_layout may = no_end_name f behind_layout
@@ -159,13 +159,13 @@ module _ (names after : List (List ℕ)) (are : AreNames names) (begins : IsPref
   no_end_word word.Stop bs behind_name behind_layout may = absurd (true≢false (sym may))
   no_end_word other bs behind_name behind_layout may = refl
 
-  no_end_of : (bs : List Bit) (behind_name behind_layout : Bool) → are_apart bs ≡ true → list_any is_end (tokens_of (spelling after) (is_bare names) behind_name behind_layout bs) ≡ false
+  no_end_of : (bs : List Spaced) (behind_name behind_layout : Bool) → are_apart bs ≡ true → list_any is_end (tokens_of (spelling after) (is_bare names) behind_name behind_layout bs) ≡ false
   no_end_of [] behind_name behind_layout apart = refl
   no_end_of (blank ∷ bs) behind_name behind_layout apart = no_end_of bs false true apart
-  no_end_of (bit w ∷ bs) behind_name behind_layout apart =
+  no_end_of (one_word w ∷ bs) behind_name behind_layout apart =
       or_from _ _ (no_end_word w bs behind_name behind_layout (and_parts _ _ apart).0) (no_end_of bs (is_naming (spelling after) (is_bare names) w) false (and_parts _ _ apart).1)
 
   -- none of the tokens is an end
-  pub no_end : (at : At) (bs : List Bit) (bytes : List ℕ) → are_within (length names) bs ≡ true → are_apart bs ≡ true → list_any is_end (tokens_from after at (pieces_of names bs) bytes) ≡ false
+  pub no_end : (at : At) (bs : List Spaced) (bytes : List ℕ) → are_within (length names) bs ≡ true → are_apart bs ≡ true → list_any is_end (tokens_from after at (pieces_of names bs) bytes) ≡ false
   no_end at bs bytes within apart =
       sym (ends_same (tokens_from after at (pieces_of names bs) bytes)) ∙ ap (list_any is_end) (tokens_same at bs bytes within) ∙ no_end_of bs at.is_behind_name at.is_behind_layout apart

@@ -13,7 +13,7 @@ use Rattle.ciao_reader.specs.declared.words.Word.TheVariants as word
 use Rattle.ciao_reader.specs.ReadingBack.{is_readable, readable_step}
 use Rattle.ciao_reader.proofs.Numbering.{numbers_in, at_node, at_atom}
 use Rattle.ciao_reader.proofs.PrintedNames.{is_there}
-use Rattle.ciao_reader.proofs.PrintedWords.{Bit, blank, bit, words_in, variable_text, shape_of, pieces_of}
+use Rattle.ciao_reader.proofs.PrintedWords.{Spaced, blank, one_word, words_in, variable_text, shape_of, pieces_of}
 
 all_append : {X : Type 0} (P : X → Type 0) (xs ys : List X) → AllByRecursion P xs → AllByRecursion P ys → AllByRecursion P (xs ++ ys)
 all_append P [] ys at_xs at_ys = at_ys
@@ -57,16 +57,16 @@ there_behind text [] texts there = there
 there_behind text (t ∷ ts) texts there = or_right (bytes_eq text t) _ (there_behind text ts texts there)
 
 module _ (names : List (List ℕ)) where
-  abbrev pub IsSpelled : List Bit → ℕ → Type 0
+  abbrev pub IsSpelled : List Spaced → ℕ → Type 0
   IsSpelled bs v = is_there (variable_text v) (tokens.words (pieces_of names bs)) ≡ true
 
-  spelled_behind : (w : Word) (bs : List Bit) (v : ℕ) → IsSpelled bs v → IsSpelled (bit w ∷ bs) v
+  spelled_behind : (w : Word) (bs : List Spaced) (v : ℕ) → IsSpelled bs v → IsSpelled (one_word w ∷ bs) v
   spelled_behind w bs v there = there_behind (variable_text v) (tokens.words_of (shape_of names w)) _ there
 
   -- the text of each variable in the words is that of one of their tokens
-  pub each_spelled : (bs : List Bit) → AllByRecursion (IsSpelled bs) (numbers_in (words_in bs))
+  pub each_spelled : (bs : List Spaced) → AllByRecursion (IsSpelled bs) (numbers_in (words_in bs))
   each_spelled [] = tt
   each_spelled (blank ∷ bs) = each_spelled bs
-  each_spelled (bit (word.Variable v) ∷ bs) =
+  each_spelled (one_word (word.Variable v) ∷ bs) =
       (or_left _ _ ((bytes_eq-Decides (variable_text v) (variable_text v)).1 refl), all_map (spelled_behind (word.Variable v) bs) (numbers_in (words_in bs)) (each_spelled bs))
-  each_spelled (bit w ∷ bs) = all_map (spelled_behind w bs) (numbers_in (words_in bs)) (each_spelled bs)
+  each_spelled (one_word w ∷ bs) = all_map (spelled_behind w bs) (numbers_in (words_in bs)) (each_spelled bs)

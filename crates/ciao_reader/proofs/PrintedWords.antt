@@ -18,41 +18,41 @@ use Rattle.ciao_reader.specs.Roles.{variable_number, with_variable}
 use Rattle.ciao_reader.specs.Sentences.{is_large, is_sign}
 
 -- a blank, or a word
-pub data Bit : Type 0 where
-  blank : Bit
-  bit : Word → Bit
+pub data Spaced : Type 0 where
+  blank : Spaced
+  one_word : Word → Spaced
 
-abbrev pub infix_bits : ℕ → List Bit
-infix_bits f = if f == fixed.COMMA then bit word.Comma ∷ [] else if f == fixed.BAR then blank ∷ bit word.Bar ∷ blank ∷ [] else blank ∷ bit (word.Between f) ∷ blank ∷ []
+abbrev pub spaced_infix : ℕ → List Spaced
+spaced_infix f = if f == fixed.COMMA then one_word word.Comma ∷ [] else if f == fixed.BAR then blank ∷ one_word word.Bar ∷ blank ∷ [] else blank ∷ one_word (word.Between f) ∷ blank ∷ []
 
 abbrev mutual
   -- the words of a derivation with the blanks that are printed between them
-  pub bits : Tree → List Bit
-  bits (tree.number n) = bit (word.Number n) ∷ []
-  bits (tree.negative n) = bit word.Sign ∷ bit (word.Number n) ∷ []
-  bits (tree.variable v) = bit (word.Variable v) ∷ []
-  bits (tree.text cs) = bit (word.Text cs) ∷ []
-  bits (tree.atom a) = bit (word.Atom a) ∷ []
-  bits tree.no_items = bit word.OpenList ∷ bit word.CloseList ∷ []
-  bits tree.no_braces = bit word.OpenCurly ∷ bit word.CloseCurly ∷ []
-  bits (tree.call f ts) = bit (word.Call f) ∷ bit word.Paren ∷ (bits_of_all ts ++ (bit word.CloseParen ∷ []))
-  bits (tree.parens t) = bit word.Paren ∷ (bits t ++ (bit word.CloseParen ∷ []))
-  bits (tree.braces t) = bit word.OpenCurly ∷ (bits t ++ (bit word.CloseCurly ∷ []))
-  bits (tree.items ts) = bit word.OpenList ∷ (bits_of_all ts ++ (bit word.CloseList ∷ []))
-  bits (tree.items_and_tail ts t) = bit word.OpenList ∷ (bits_of_all ts ++ (bit word.Bar ∷ (bits t ++ (bit word.CloseList ∷ []))))
-  bits (tree.before f t) = bit (word.Before f) ∷ blank ∷ bits t
-  bits (tree.between f t u) = bits t ++ (infix_bits f ++ bits u)
+  pub spaced : Tree → List Spaced
+  spaced (tree.number n) = one_word (word.Number n) ∷ []
+  spaced (tree.negative n) = one_word word.Sign ∷ one_word (word.Number n) ∷ []
+  spaced (tree.variable v) = one_word (word.Variable v) ∷ []
+  spaced (tree.text cs) = one_word (word.Text cs) ∷ []
+  spaced (tree.atom a) = one_word (word.Atom a) ∷ []
+  spaced tree.no_items = one_word word.OpenList ∷ one_word word.CloseList ∷ []
+  spaced tree.no_braces = one_word word.OpenCurly ∷ one_word word.CloseCurly ∷ []
+  spaced (tree.call f ts) = one_word (word.Call f) ∷ one_word word.Paren ∷ (spaced_of_all ts ++ (one_word word.CloseParen ∷ []))
+  spaced (tree.parens t) = one_word word.Paren ∷ (spaced t ++ (one_word word.CloseParen ∷ []))
+  spaced (tree.braces t) = one_word word.OpenCurly ∷ (spaced t ++ (one_word word.CloseCurly ∷ []))
+  spaced (tree.items ts) = one_word word.OpenList ∷ (spaced_of_all ts ++ (one_word word.CloseList ∷ []))
+  spaced (tree.items_and_tail ts t) = one_word word.OpenList ∷ (spaced_of_all ts ++ (one_word word.Bar ∷ (spaced t ++ (one_word word.CloseList ∷ []))))
+  spaced (tree.before f t) = one_word (word.Before f) ∷ blank ∷ spaced t
+  spaced (tree.between f t u) = spaced t ++ (spaced_infix f ++ spaced u)
 
-  pub bits_of_all : Trees → List Bit
-  bits_of_all (tree.one t) = bits t
-  bits_of_all (tree.more t ts) = bits t ++ (bit word.Comma ∷ bits_of_all ts)
+  pub spaced_of_all : Trees → List Spaced
+  spaced_of_all (tree.one t) = spaced t
+  spaced_of_all (tree.more t ts) = spaced t ++ (one_word word.Comma ∷ spaced_of_all ts)
 
-abbrev pub words_in : List Bit → List Word
+abbrev pub words_in : List Spaced → List Word
 words_in [] = []
 words_in (blank ∷ bs) = words_in bs
-words_in (bit w ∷ bs) = w ∷ words_in bs
+words_in (one_word w ∷ bs) = w ∷ words_in bs
 
--- which bits may stand side by side
+-- which words and blanks may stand side by side
 
 -- a word of one byte that is no name
 abbrev pub is_mark : Word → Bool
@@ -67,25 +67,25 @@ is_mark word.Bar = true
 is_mark other = false
 
 -- nothing, a blank or a mark comes next
-abbrev pub is_apart : List Bit → Bool
+abbrev pub is_apart : List Spaced → Bool
 is_apart [] = true
 is_apart (blank ∷ bs) = true
-is_apart (bit w ∷ bs) = is_mark w
+is_apart (one_word w ∷ bs) = is_mark w
 
 -- a number comes next
-abbrev pub is_digits : List Bit → Bool
-is_digits (bit (word.Number n) ∷ bs) = true
+abbrev pub is_digits : List Spaced → Bool
+is_digits (one_word (word.Number n) ∷ bs) = true
 is_digits other = false
 
-abbrev pub may_precede : Bit → List Bit → Bool
+abbrev pub may_precede : Spaced → List Spaced → Bool
 may_precede blank bs = true
-may_precede (bit (word.Text cs)) bs = false
-may_precede (bit word.Stop) bs = false
-may_precede (bit word.Sign) bs = is_digits bs
-may_precede (bit w) bs = if is_mark w then true else is_apart bs
+may_precede (one_word (word.Text cs)) bs = false
+may_precede (one_word word.Stop) bs = false
+may_precede (one_word word.Sign) bs = is_digits bs
+may_precede (one_word w) bs = if is_mark w then true else is_apart bs
 
--- each bit may stand before the next, so the pieces are the bits
-abbrev pub are_apart : List Bit → Bool
+-- each word may stand before the next, so the pieces are the words and blanks
+abbrev pub are_apart : List Spaced → Bool
 are_apart [] = true
 are_apart (b ∷ bs) = may_precede b bs && are_apart bs
 
@@ -99,10 +99,10 @@ is_within count (word.Before f) = nat_lt f count
 is_within count (word.Between f) = nat_lt f count
 is_within count other = true
 
-abbrev pub are_within : ℕ → List Bit → Bool
+abbrev pub are_within : ℕ → List Spaced → Bool
 are_within count [] = true
 are_within count (blank ∷ bs) = are_within count bs
-are_within count (bit w ∷ bs) = is_within count w && are_within count bs
+are_within count (one_word w ∷ bs) = is_within count w && are_within count bs
 
 -- bytes and pieces
 
@@ -130,13 +130,13 @@ module _ (names : List (List ℕ)) where
   spelled word.Bar = codes "|"
   spelled word.Stop = []
 
-  abbrev pub bit_bytes : Bit → List ℕ
-  bit_bytes blank = codes " "
-  bit_bytes (bit w) = spelled w
+  abbrev pub spaced_bytes : Spaced → List ℕ
+  spaced_bytes blank = codes " "
+  spaced_bytes (one_word w) = spelled w
 
   -- the text of words and blanks
-  abbrev pub bytes_of : List Bit → List ℕ
-  bytes_of bs = flat_map bit_bytes bs
+  abbrev pub bytes_of : List Spaced → List ℕ
+  bytes_of bs = flat_map spaced_bytes bs
 
   -- whether a name needs no quotes
   abbrev pub is_bare : ℕ → Bool
@@ -165,12 +165,12 @@ module _ (names : List (List ℕ)) where
   shape_of word.Bar = mark bar
   shape_of word.Stop = stop
 
-  abbrev pub piece_of : Bit → Piece
+  abbrev pub piece_of : Spaced → Piece
   piece_of blank = layout 1
-  piece_of (bit w) = token (length (spelled w)) (shape_of w)
+  piece_of (one_word w) = token (length (spelled w)) (shape_of w)
 
   -- the pieces of the text
-  abbrev pub pieces_of : List Bit → List Piece
+  abbrev pub pieces_of : List Spaced → List Piece
   pieces_of bs = map piece_of bs
 
 -- tokens apart from their places
@@ -213,10 +213,10 @@ module _ (spelling : ℕ → ℕ) (is_bare : ℕ → Bool) where
   token_of k behind_layout = record { kind = k; line = 0; start = 0; end = 0; layout_before = behind_layout }
 
   -- the tokens of words and blanks, with no places, directly behind a name or not, and directly behind layout or not
-  abbrev pub tokens_of : Bool → Bool → List Bit → List Token
+  abbrev pub tokens_of : Bool → Bool → List Spaced → List Token
   tokens_of behind_name behind_layout [] = []
   tokens_of behind_name behind_layout (blank ∷ bs) = tokens_of false true bs
-  tokens_of behind_name behind_layout (bit w ∷ bs) = token_of (kind_of behind_name w) behind_layout ∷ tokens_of (is_naming w) false bs
+  tokens_of behind_name behind_layout (one_word w ∷ bs) = token_of (kind_of behind_name w) behind_layout ∷ tokens_of (is_naming w) false bs
 
 -- words as the scan tells them
 

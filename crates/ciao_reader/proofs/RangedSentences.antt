@@ -2,8 +2,9 @@
 use Rattle.std.proofs.Common.{arith, ◌≡◌, ◌≤◌, ◌<◌, ◌⊎◌, ℕ, zero, suc, ◌+◌, List, [], ◌∷◌, ◌++◌, length, inl, inr, refl, sym, ap, ◌∙◌, subst}
 use Rattle.std.proofs.lemmas.List.{length-append}
 use Rattle.std.specs.List.{AllByRecursion}
-use Rattle.term_core.specs.Names as fixed
-use Rattle.term_core.specs.Names.{fixed_names, IsPrefix}
+use Rattle.term_core.specs.declared.fixed.TheConstants as fixed
+use Rattle.term_core.specs.Names.{fixed_names}
+use Rattle.term_core.specs.Lists.{IsPrefix}
 use Rattle.term_core.specs.Terms.{vars}
 use Rattle.term_core.specs.Standard.{standard}
 use Rattle.term_core.specs.Ranges.{has_names, IsInRange, RangesStay}
@@ -27,7 +28,7 @@ below_all : (n m : ℕ) → n ≤ m → AllByRecursion (λ x. x < m) (below n)
 below_all zero m le = tt
 below_all (suc n) m le = all_joined (λ x. x < m) (below n) (n ∷ []) (below_all n m (omega (arith, le))) (omega (arith, le), tt)
 
-module _ (stay : RangesStay) (names : List (List ℕ)) (enough : fixed.bar < length names) where
+module _ (stay : RangesStay) (names : List (List ℕ)) (enough : fixed.BAR < length names) where
   -- a sentence of tokens in range
   sentence_ranged : (ops : Operators) (ts : List Token) (s : Sentence) → AreNamedBelow (length names) ts → IsSentence names ops ts s → IsSentenceInRange (length names) s
   sentence_ranged ops ts s named is = record {
@@ -55,7 +56,7 @@ module _ (stay : RangesStay) (names : List (List ℕ)) (enough : fixed.bar < len
       by (inr same) = subst (AreNamedBelow (length names)) same.0 named
 
 -- names that begin with the fixed ones, and more, are enough
-enough_names : (before after : List (List ℕ)) → IsPrefix fixed_names before → IsPrefix before after → fixed.bar < length after
+enough_names : (before after : List (List ℕ)) → IsPrefix fixed_names before → IsPrefix before after → fixed.BAR < length after
 enough_names before after fixed_first first =
     let p : _ = ap length (sym fixed_first.1) ∙ length-append fixed_names fixed_first.0 in
     let q : _ = ap length (sym first.1) ∙ length-append before first.0 in

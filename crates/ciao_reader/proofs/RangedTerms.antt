@@ -5,8 +5,9 @@ use Rattle.std.proofs.lemmas.Bool.Decides.{nat_tests}
 use Rattle.std.proofs.lemmas.List.{length-map, length-append}
 use Rattle.std.specs.Prelude.{◌&&◌, ◌==◌, not, nat_lt, nat_le, ⊤, pos, Option, Some, None, if◌then◌else◌}
 use Rattle.std.specs.List.{list_all, AllByRecursion}
-use Rattle.term_core.specs.Names as fixed
-use Rattle.term_core.specs.Names.{fixed_names, IsPrefix, with_texts}
+use Rattle.term_core.specs.declared.fixed.TheConstants as fixed
+use Rattle.term_core.specs.Names.{fixed_names, with_texts}
+use Rattle.term_core.specs.Lists.{IsPrefix}
 use Rattle.term_core.specs.Terms.{vars, above}
 use Rattle.term_core.specs.Ranges.{is_compound, has_names, has_names_step, IsInRange, RangesStay}
 use Rattle.term_core.specs.Operators.{prefix_of, right_limit}
@@ -35,7 +36,7 @@ both true b e h = h
 both false b e h = cc
 
 -- names below a number, above that of the bar
-module _ (n : ℕ) (enough : fixed.bar < n) where
+module _ (n : ℕ) (enough : fixed.BAR < n) where
   -- words
 
   abbrev IsWordNamed : Word → Type 0
@@ -67,7 +68,7 @@ module _ (n : ℕ) (enough : fixed.bar < n) where
         by false false false = operand_named name lt (prefix_of ops name) ts
 
     token_named : (due : Bool) (seen : List ℕ) (k : TokenKind) (ts : List Token) → IsNamedBelow n k → IsWordNamed (role names ops due seen k ts)
-    token_named due seen (kind.Name name) ts lt = name_named due name lt (name == fixed.minus) ts
+    token_named due seen (kind.Name name) ts lt = name_named due name lt (name == fixed.MINUS) ts
     token_named due seen (kind.Quoted name) ts lt = name_named due name lt false ts
     token_named due seen other ts h = tt
 
@@ -104,23 +105,23 @@ module _ (n : ℕ) (enough : fixed.bar < n) where
   list_named [] tail h e = e
   list_named (t ∷ ts) tail h e =
       let parts = and_parts (has_names n t) _ h in
-      node_named fixed.cell (t ∷ list_term ts tail ∷ []) (omega (arith, enough)) (omega arith) (omega arith) (pair_named t (list_term ts tail) parts.0 (list_named ts tail parts.1 e))
+      node_named fixed.CELL (t ∷ list_term ts tail ∷ []) (omega (arith, enough)) (omega arith) (omega arith) (pair_named t (list_term ts tail) parts.0 (list_named ts tail parts.1 e))
 
   codes_named : (cs : List ℕ) → has_names n (codes_term cs) ≡ true
-  codes_named [] = atom_named fixed.nil (omega (arith, enough))
+  codes_named [] = atom_named fixed.NIL (omega (arith, enough))
   codes_named (c ∷ cs) =
-      node_named fixed.cell (Int (pos c) ∷ codes_term cs ∷ []) (omega (arith, enough)) (omega arith) (omega arith) (pair_named (Int (pos c)) (codes_term cs) (fold-Int Bool (has_names_step n) (pos c)) (codes_named cs))
+      node_named fixed.CELL (Int (pos c) ∷ codes_term cs ∷ []) (omega (arith, enough)) (omega arith) (omega arith) (pair_named (Int (pos c)) (codes_term cs) (fold-Int Bool (has_names_step n) (pos c)) (codes_named cs))
 
   infix_named : (f : ℕ) → IsWordNamed (infix_word f) → f < n
-  infix_named f h = by (f == fixed.comma) (f == fixed.bar) refl refl h
+  infix_named f h = by (f == fixed.COMMA) (f == fixed.BAR) refl refl h
     where
-      is_comma : true ≡ (f == fixed.comma) → f ≡ fixed.comma
+      is_comma : true ≡ (f == fixed.COMMA) → f ≡ fixed.COMMA
       is_comma e = grind (arith, nat_tests)
 
-      is_bar : true ≡ (f == fixed.bar) → f ≡ fixed.bar
+      is_bar : true ≡ (f == fixed.BAR) → f ≡ fixed.BAR
       is_bar e = grind (arith, nat_tests)
 
-      by : (b c : Bool) → b ≡ (f == fixed.comma) → c ≡ (f == fixed.bar) → IsWordNamed (if b then word.Comma else if c then word.Bar else word.Between f) → f < n
+      by : (b c : Bool) → b ≡ (f == fixed.COMMA) → c ≡ (f == fixed.BAR) → IsWordNamed (if b then word.Comma else if c then word.Bar else word.Between f) → f < n
       by true c e d h = let p : _ = is_comma e in omega (arith, p, enough)
       by false true e d h = let p : _ = is_bar d in omega (arith, p, enough)
       by false false e d h = h
@@ -140,8 +141,8 @@ module _ (n : ℕ) (enough : fixed.bar < n) where
       tree_named (variable v) h e = fold-Var Bool (has_names_step n) v
       tree_named (text cs) h e = codes_named cs
       tree_named (atom a) h e = atom_named a h.0
-      tree_named no_items h e = atom_named fixed.nil (omega (arith, enough))
-      tree_named no_braces h e = atom_named fixed.braces (omega (arith, enough))
+      tree_named no_items h e = atom_named fixed.NIL (omega (arith, enough))
+      tree_named no_braces h e = atom_named fixed.BRACES (omega (arith, enough))
       tree_named (call f ts) h e =
           let allowed = and_parts (nat_le (count ts) 255) (all_fit ops ts) e in
           let many = as_many ts in
@@ -151,9 +152,9 @@ module _ (n : ℕ) (enough : fixed.bar < n) where
           node_named f (terms_of ts) h.0 (omega (arith, same, some)) (omega (arith, same, few)) (trees_named ts (all_parts IsWordNamed (words_of_all ts) _ h.1.1).0 allowed.1)
       tree_named (parens t) h e = tree_named t (all_parts IsWordNamed (words t) _ h.1).0 (and_parts (nat_le (priority ops t) 1200) (fits ops t) e).1
       tree_named (braces t) h e =
-          node_named fixed.braces (term_of t ∷ []) (omega (arith, enough)) (omega arith) (omega arith)
+          node_named fixed.BRACES (term_of t ∷ []) (omega (arith, enough)) (omega arith) (omega arith)
           (single_named (term_of t) (tree_named t (all_parts IsWordNamed (words t) _ h.1).0 (and_parts (nat_le (priority ops t) 1200) (fits ops t) e).1))
-      tree_named (items ts) h e = list_named (terms_of ts) (Atom fixed.nil) (trees_named ts (all_parts IsWordNamed (words_of_all ts) _ h.1).0 e) (atom_named fixed.nil (omega (arith, enough)))
+      tree_named (items ts) h e = list_named (terms_of ts) (Atom fixed.NIL) (trees_named ts (all_parts IsWordNamed (words_of_all ts) _ h.1).0 e) (atom_named fixed.NIL (omega (arith, enough)))
       tree_named (items_and_tail ts t) h e =
           let parts = all_parts IsWordNamed (words_of_all ts) _ h.1 in
           let allowed = and_parts (all_fit ops ts) _ e in

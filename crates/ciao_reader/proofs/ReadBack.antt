@@ -27,12 +27,12 @@ use Rattle.ciao_reader.proofs.PrintedTokens.{spelling, same_roles, no_end}
 use Rattle.ciao_reader.proofs.PrintedNumbers.{IsTold, words_numbered}
 use Rattle.ciao_reader.proofs.PrintedTrees.{tree_of}
 use Rattle.ciao_reader.proofs.PrintedVariables.{all_both, all_map, Is64Bits, IsSpelled, variables_small, each_spelled}
-use Rattle.ciao_reader.proofs.PrintedCut.{bits_cut, bits_utf8, bits_unmarked, bits_in_range}
-use Rattle.ciao_reader.proofs.PrintedCutApart.{bits_apart}
+use Rattle.ciao_reader.proofs.PrintedCut.{spaced_cut, bits_utf8, spaced_unmarked, spaced_in_range}
+use Rattle.ciao_reader.proofs.PrintedCutApart.{spaced_apart}
 use Rattle.ciao_reader.proofs.PrintedRoles.{printed_roles}
 use Rattle.ciao_reader.proofs.PrintedTerms.{printed_means, printed_fits, printed_priority, printed_guarded, printed_text, printed_within, printed_none_large}
-use Rattle.ciao_reader.proofs.PrintedTermsWords.{words_in_bits}
-use Rattle.ciao_reader.proofs.PrintedWords.{bits, are_apart, are_within, bytes_of, pieces_of, is_bare, tokens_of, has_none_large, variable_text}
+use Rattle.ciao_reader.proofs.PrintedTermsWords.{words_in_spaced}
+use Rattle.ciao_reader.proofs.PrintedWords.{spaced, are_apart, are_within, bytes_of, pieces_of, is_bare, tokens_of, has_none_large, variable_text}
 use Rattle.ciao_reader.proofs.RenumberedTrees.{renumbered, renumbered_words, words_renumbered, none_large_renumbered, priority_renumbered, fits_renumbered, term_renumbered}
 
 -- where no 2^63 lacks its sign, there is no line of one
@@ -54,10 +54,10 @@ module _ (written : WrittenIsRead) (names : List (List ℕ)) (ops : Operators) (
   tree = tree_of ops t
 
   abbrev pieces : List Piece
-  pieces = pieces_of names (bits tree)
+  pieces = pieces_of names (spaced tree)
 
   abbrev bytes : List ℕ
-  bytes = bytes_of names (bits tree)
+  bytes = bytes_of names (spaced tree)
 
   abbrev after : List (List ℕ)
   after = names_with names pieces
@@ -68,24 +68,24 @@ module _ (written : WrittenIsRead) (names : List (List ℕ)) (ops : Operators) (
   begins : IsPrefix names after
   begins = written.kept names pieces
 
-  named : are_within (length names) (bits tree) ≡ true
+  named : are_within (length names) (spaced tree) ≡ true
   named = printed_within names ops t are made readable
 
-  apart : are_apart (bits tree) ≡ true
-  apart = bits_apart ops tree (printed_guarded names ops t are made readable)
+  apart : are_apart (spaced tree) ≡ true
+  apart = spaced_apart ops tree (printed_guarded names ops t are made readable)
 
   unmarked : has_mark bytes ≡ false
-  unmarked = bits_unmarked written names are.texts (length names) (bits tree) apart named
+  unmarked = spaced_unmarked written names are.texts (length names) (spaced tree) apart named
 
   means : term_of tree ≡ t
   means = printed_means names ops t are made readable
 
   has_tokens : HasTokens bytes names after read
   has_tokens = record {
-    utf8 = bits_utf8 written names are.texts (bits tree);
+    utf8 = bits_utf8 written names are.texts (spaced tree);
     pieces = pieces;
-    cut = subst (Cut pieces) (sym (ap (λ b. if b then drop 3 bytes else bytes) unmarked)) (bits_cut written names are.texts (length names) (bits tree) apart named);
-    range = bits_in_range names (length names) (bits tree) named;
+    cut = subst (Cut pieces) (sym (ap (λ b. if b then drop 3 bytes else bytes) unmarked)) (spaced_cut written names are.texts (length names) (spaced tree) apart named);
+    range = spaced_in_range names (length names) (spaced tree) named;
     named = refl;
     are = refl;
   }
@@ -96,7 +96,7 @@ module _ (written : WrittenIsRead) (names : List (List ℕ)) (ops : Operators) (
   told = all_both Is64Bits _ (numbers_in (words tree))
       (subst (AllByRecursion Is64Bits) (same_numbers tree) (variables_small (length names) (term_of tree) (subst (λ u. is_readable (length names) u ≡ true) (sym means) readable)))
       (all_map (λ v there. each_there (variable_text v) names (tokens.words pieces) there) (numbers_in (words tree))
-      (subst (λ ws. AllByRecursion (IsSpelled names (bits tree)) (numbers_in ws)) (words_in_bits tree) (each_spelled names (bits tree))))
+      (subst (λ ws. AllByRecursion (IsSpelled names (spaced tree)) (numbers_in ws)) (words_in_spaced tree) (each_spelled names (spaced tree))))
 
   abbrev number : ℕ → ℕ
   number v = position_or_len (nat_eq v) (with_all_new [] (numbers_in (words tree)))
@@ -114,8 +114,8 @@ module _ (written : WrittenIsRead) (names : List (List ℕ)) (ops : Operators) (
 
   roles_are : roles after ops read ≡ renumbered_words number (words tree)
   roles_are =
-      same_roles names after are begins ops (start_of bytes) (bits tree) (without_mark bytes) named
-      ∙ ap (λ b. roles after ops (tokens_of (spelling after) (is_bare names) false b (bits tree))) unmarked
+      same_roles names after are begins ops (start_of bytes) (spaced tree) (without_mark bytes) named
+      ∙ ap (λ b. roles after ops (tokens_of (spelling after) (is_bare names) false b (spaced tree))) unmarked
       ∙ printed_roles after ops (spelling after) (is_bare names) tree fitting (printed_guarded names ops t are made readable)
       ∙ words_numbered after (words tree) told
 
@@ -145,7 +145,7 @@ module _ (written : WrittenIsRead) (names : List (List ℕ)) (ops : Operators) (
       has = has_tokens;
       is = record {
         inner = read;
-        alone = inr (refl, no_end names after are begins (start_of bytes) (bits tree) (without_mark bytes) named apart);
+        alone = inr (refl, no_end names after are begins (start_of bytes) (spaced tree) (without_mark bytes) named apart);
         is = record { reads = reads; shallow = shallow after read (numbered_from_zero t) has_tokens reads; in_range = in_range; line = refl; vars = refl };
       };
     };

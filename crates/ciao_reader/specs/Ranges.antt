@@ -1,8 +1,8 @@
 -- Sentences in range.
 use Rattle.std.specs.Prelude.{ℕ, List, length}
 use Rattle.std.specs.List.{AllByRecursion}
-use Rattle.term_core.specs.Lists.{IsPrefix}
 use Rattle.term_core.specs.Names.{fixed_names}
+use Rattle.term_core.specs.Lists.{IsPrefix}
 use Rattle.term_core.specs.Ranges.{IsInRange}
 use Rattle.term_core.specs.declared.operators.Operators.{Operators}
 use Rattle.ciao_reader.specs.Sentences.{HasSentences, HasGoal}

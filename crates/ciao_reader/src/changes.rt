@@ -1,21 +1,11 @@
 // What a sentence makes of the operators.
-ghost use Rattle.std.specs.Prelude.{◌≡◌, ◌∷◌, [], false, codes, Some, None, IfOk, OnOk, OnErr, IsErrOf, MatchOption};
-ghost use Rattle.term_core.specs.declared.fixed.TheConstants.{NIL, CELL};
+ghost use Rattle.std.specs.Prelude.{◌≡◌, Some, None, IfOk, OnOk, IsErrOf};
 ghost use Rattle.term_core.specs.declared.terms.Term.{out-Term};
-ghost use Rattle.term_core.specs.Terms.{is_atom_of};
-ghost use Rattle.term_core.specs.Printing.{is_cell};
-ghost use Rattle.ciao_reader.specs.Changes.{kind_named, alone, listed, names_in, added_all, text_of, after_op, after_directive, table_after};
+ghost use Rattle.ciao_reader.specs.Changes.{kind_named, alone, listed, names_in, added_all, after_op, after_directive, table_after};
 
 use sqlite_items::Items;
 use std::alloc::Global;
-use term_core::{Names, NoMemory, OpFault, OpKind, OpTable, Term};
-
-// The numbers of `[]`, the list cell and `:-` among the names.
-const NIL: u64 = 0;
-
-const CELL: u64 = 1;
-
-const NECK: u64 = 15;
+use term_core::{NECK, Names, NoMemory, OpFault, OpKind, OpTable, Term};
 
 // The kind of operator that a text names.
 fn kind_named(text: &str) -> Option<OpKind>
@@ -36,17 +26,6 @@ fn kind_named(text: &str) -> Option<OpKind>
     }
 }
 
-// The text of a name, none for a number that is no name's.
-fn text_of(names: &Names, name: u64) -> &str
-    ensures { result.now ≡ text_of names.now name }
-{
-    if name < names.len() {
-        names.text(name)
-    } else {
-        ""
-    }
-}
-
 // The name of an atom.
 fn atom_of(term: &Term) -> Option<u64>
     ensures { result ≡ alone term.now }
@@ -57,48 +36,20 @@ fn atom_of(term: &Term) -> Option<u64>
     }
 }
 
-// The item and the tail of a list cell.
-fn list_cell(term: &Term) -> Option<(&Term, &Term)>
-    ensures { MatchOption result (is_cell (out-Term term.now) ≡ false) (λ parts. term.now ≡ Term.Node CELL (parts.0.now ∷ parts.1.now ∷ [])) }
-{
-    match term {
-        Term::Var(_) | Term::Int(_) | Term::Atom(_) => None,
-        Term::Node(name, parts) => match parts.as_slice() {
-            [item, tail] => {
-                if *name == CELL {
-                    Some((item, tail))
-                } else {
-                    None
-                }
-            }
-            _ => None,
-        },
-    }
-}
-
-fn is_empty_list(term: &Term) -> bool
-    ensures { result ≡ is_atom_of NIL (out-Term term.now) }
-{
-    match term {
-        Term::Atom(name) => *name == NIL,
-        Term::Var(_) | Term::Int(_) | Term::Node(_, _) => false,
-    }
-}
-
 // The names of a proper list of atoms.
 fn listed(alloc: Global, term: &Term) -> Result<Option<Items<u64>>, NoMemory>
     ensures { IfOk result (λ names. names ≡ listed term.now) }
 {
     let mut names = Items::new(alloc);
     let mut left = term;
-    while let Some((item, tail)) = list_cell(left) {
+    while let Some((item, tail)) = left.list_cell() {
         match atom_of(item) {
             None => return Ok(None),
             Some(name) => names.push(name)?,
         }
         left = tail;
     }
-    if is_empty_list(left) {
+    if left.is_empty_list() {
         Ok(Some(names))
     } else {
         Ok(None)
@@ -145,7 +96,7 @@ fn after_op(
     match priority {
         Term::Int(priority) => match kind {
             Term::Atom(kind) => match names_in(alloc, changed)? {
-                Some(changed) => match kind_named(text_of(names, *kind)) {
+                Some(changed) => match kind_named(names.text_or_empty(*kind)) {
                     Some(kind) => add_all(ops, *priority, kind, changed.as_slice()),
                     None => Err(OpFault::OpRefused),
                 },
@@ -170,7 +121,7 @@ fn after_directive(
     match directive {
         Term::Node(name, parts) => match parts.as_slice() {
             [priority, kind, changed] => {
-                if text_of(names, *name) == "op" {
+                if names.text_or_empty(*name) == "op" {
                     after_op(alloc, names, ops, priority, kind, changed)
                 } else {
                     Ok(())

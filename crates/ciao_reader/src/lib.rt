@@ -4,7 +4,6 @@
 mod changes;
 mod frames;
 mod laws;
-mod limits;
 mod parts;
 mod reader;
 mod reading;

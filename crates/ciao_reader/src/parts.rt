@@ -5,15 +5,10 @@ ghost use Rattle.ciao_reader.specs.Parts.{capped, leaf, node_part, prefix_part, 
 
 use sqlite_items::Items;
 use std::alloc::Global;
-use term_core::{NoMemory, Term};
+use term_core::{CELL, NIL, NoMemory, Term};
 
 // The greatest depth of a sentence.
 pub(crate) const DEPTH_LIMIT: u64 = 4096;
-
-// The numbers of `[]` and of the list cell among the names.
-pub(crate) const NIL: u64 = 0;
-
-const CELL: u64 = 1;
 
 /// What was read of a term, and its depth. Where it is too deep, the depth is one above the limit,
 /// and the term says nothing: so no term is built that is too deep to be dropped.

@@ -1,22 +1,15 @@
 // The scan of a sentence's tokens, which gives each its role.
-ghost use Rattle.std.specs.Prelude.{◌≡◌, IfOk, OnOk, [], codes, bytes_eq, nat_eq, slice_index_or};
+ghost use Rattle.std.specs.Prelude.{◌≡◌, IfOk, OnOk, codes, bytes_eq, nat_eq};
 ghost use Rattle.std.specs.List.{position_or_len};
 ghost use Rattle.term_core.specs.Operators.{prefix_of};
+ghost use Rattle.term_core.specs.Names.{name_text};
 ghost use Rattle.ciao_reader.specs.Roles.{is_open_call, calls_next, is_number, number_next, is_above, goes_on, stands_alone, breaks_at, operand_role, name_role, is_known, variable_number, with_variable, variable_count, due_behind, role, roles};
 
-use crate::limits::right_limit;
 use crate::words::Word;
 use ciao_tokens::{Token, TokenKind};
 use sqlite_items::Items;
 use std::alloc::Global;
-use term_core::{Names, NoMemory, Op, OpTable};
-
-// The numbers of `-`, the comma and the bar among the names.
-const MINUS: u64 = 48;
-
-const COMMA: u64 = 3;
-
-const BAR: u64 = 4;
+use term_core::{BAR, COMMA, MINUS, Names, NoMemory, Op, OpTable};
 
 // Whether a token is a parenthesis directly behind a name.
 fn is_open_call(kind: &TokenKind) -> bool
@@ -112,7 +105,7 @@ fn operand_role(ops: &OpTable, name: u64, behind: &[Token]) -> Word
     match ops.prefix(name) {
         None => Word::Atom(name),
         Some(op) => {
-            if stands_alone(ops, right_limit(op), behind) {
+            if stands_alone(ops, op.right_limit(), behind) {
                 Word::Atom(name)
             } else {
                 Word::Before(name)
@@ -137,13 +130,9 @@ fn name_role(ops: &OpTable, due: bool, name: u64, is_minus: bool, behind: &[Toke
 
 // Whether the text of a number is `_`.
 fn is_blank(names: &Names, spelling: u64) -> bool
-    ensures { result ≡ bytes_eq (slice_index_or names.now spelling []) (codes "_") }
+    ensures { result ≡ bytes_eq (name_text names.now spelling) (codes "_") }
 {
-    if spelling < names.len() {
-        names.text(spelling) == "_"
-    } else {
-        false
-    }
+    names.text_or_empty(spelling) == "_"
 }
 
 // Whether a variable has a number already.

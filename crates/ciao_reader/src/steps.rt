@@ -7,19 +7,11 @@ ghost use Rattle.ciao_reader.specs.Readings.{as_integer};
 ghost use Rattle.ciao_reader.specs.Steps.{now, need, number_next, call_next, prefix_next, no_item, no_brace, after_need, at_end, in_paren, in_curly, called, in_call, in_list, in_tail, given, operator_of, operator_next, named, grown};
 
 use crate::frames::{Frame, Mode, Stepped};
-use crate::limits::{left_limit, right_limit};
-use crate::parts::{NIL, Part, in_parens, infix_term, leaf, list, node, prefix_term, text};
+use crate::parts::{Part, in_parens, infix_term, leaf, list, node, prefix_term, text};
 use crate::words::Word;
 use sqlite_items::Items;
 use std::alloc::Global;
-use term_core::{NoMemory, Op, OpTable, Term};
-
-// The numbers of `{}`, the comma and the bar among the names.
-const BRACES: u64 = 2;
-
-const COMMA: u64 = 3;
-
-const BAR: u64 = 4;
+use term_core::{BAR, BRACES, COMMA, NIL, NoMemory, Op, OpTable, Term};
 
 // The greatest priority of a sentence and of what stands in parentheses or braces, and that of an
 // argument or an item.
@@ -111,7 +103,7 @@ fn prefix_next<'a>(
             if op.priority <= most {
                 stack.push(Frame::Before(name, most))?;
                 Ok(Stepped {
-                    mode: Mode::Need(right_limit(op)),
+                    mode: Mode::Need(op.right_limit()),
                     left,
                 })
             } else {
@@ -473,9 +465,9 @@ pub(crate) fn after_have<'a>(
     match operator_next(ops, left) {
         None => given(alloc, ops, stack, part, left),
         Some((name, op)) => {
-            if op.priority <= most && priority <= left_limit(op) {
+            if op.priority <= most && priority <= op.left_limit() {
                 let frame = Frame::Between(name, part, most);
-                opened(stack, frame, right_limit(op), behind_next(left))
+                opened(stack, frame, op.right_limit(), behind_next(left))
             } else {
                 given(alloc, ops, stack, part, left)
             }

@@ -1,37 +1,37 @@
-pub mod ByteClasses
-pub mod FirstBytes
-pub mod Longest
-pub mod Ascii
-pub mod Runs
-pub mod WordLaws
-pub mod OneByteLaws
-pub mod CommentLaws
-pub mod SymbolLaws
-pub mod Bytes
-pub mod Sorts
-pub mod OneMeaning
-pub mod OneForm
-pub mod OneCut
+mod ByteClasses
+mod FirstBytes
+mod Longest
+mod Ascii
+mod Runs
+mod WordLaws
+mod OneByteLaws
+mod CommentLaws
+mod SymbolLaws
+mod Bytes
+mod Sorts
+mod OneMeaning
+mod OneForm
+mod OneCut
 pub mod OneAnswer
-pub mod DigitLaws
-pub mod PartLaws
-pub mod QuoteLaws
-pub mod BadIsStuck
-pub mod Encodings
-pub mod QuoteScan
-pub mod Closings
-pub mod NumberLaws
-pub mod ScanLaws
-pub mod TokenLaws
-pub mod NamePlaces
-pub mod MarkLaws
-pub mod Found
-pub mod NumberScan
-pub mod EveryPlace
+mod DigitLaws
+mod PartLaws
+mod QuoteLaws
+mod BadIsStuck
+mod Encodings
+mod QuoteScan
+mod Closings
+mod NumberLaws
+mod ScanLaws
+mod TokenLaws
+mod NamePlaces
+mod MarkLaws
+mod Found
+mod NumberScan
+mod EveryPlace
 pub mod EveryText
-pub mod InOrder
-pub mod WrittenDigits
-pub mod WrittenQuotes
-pub mod WrittenTokens
-pub mod WrittenWords
-pub mod NamedTokens
+mod InOrder
+mod WrittenDigits
+mod WrittenQuotes
+mod WrittenTokens
+mod WrittenWords
+mod NamedTokens

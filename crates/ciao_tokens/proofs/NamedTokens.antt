@@ -3,7 +3,8 @@ use Rattle.std.proofs.Common.{arith, ◌≡◌, ◌<◌, ℕ, zero, suc, ◌+◌
 use Rattle.std.proofs.lemmas.Bool.{or_left, or_right}
 use Rattle.std.specs.Prelude.{bytes_eq, if◌then◌else◌, ◌||◌}
 use Rattle.std.specs.List.{list_any, position_or_len, AllByRecursion}
-use Rattle.term_core.specs.Names.{place_of, with_text, with_texts, IsPrefix}
+use Rattle.term_core.specs.Names.{place_of, with_text, with_texts}
+use Rattle.term_core.specs.Lists.{IsPrefix}
 use Rattle.ciao_tokens.specs.Forms.{Shape, name, quoted, variable, number, text, mark, stop, Mark, paren, close_paren, bracket, close_bracket, curly, close_curly, comma, bar}
 use Rattle.ciao_tokens.specs.Pieces.{Piece, layout, token}
 use Rattle.ciao_tokens.specs.Tokens.{At, words_of, words, behind, mark_kind, kind_of, tokens_from, without_mark, start_of, HasTokens}

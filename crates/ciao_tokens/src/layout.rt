@@ -50,16 +50,6 @@ pub(crate) fn line_comment(text: &str) -> Found<'_>
     }
 }
 
-/// Whether `/*` comes first.
-pub(crate) fn opens_comment(text: &str) -> bool
-    ensures { result ≡ opens_comment text.now }
-{
-    match text.as_bytes() {
-        [first, second, ..] => *first == b'/' && *second == b'*',
-        _ => false,
-    }
-}
-
 // Whether a star and what stands behind it close a comment.
 fn closes(first: u8, behind: &[u8]) -> bool
     ensures { result ≡ (first == 42 && starts (λ c. c == 47) behind.now) }

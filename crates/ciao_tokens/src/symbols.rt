@@ -1,7 +1,7 @@
 // Names of symbol characters, tokens of one byte, and the `.` that ends a sentence.
 ghost use Rattle.std.specs.Prelude.{IsUtf8, ◌≡◌, ◌≤◌, ◌==◌, ◌||◌, false, length, ℕ, List, ◌∷◌};
 ghost use Rattle.std.specs.List.{prefix_len};
-ghost use Rattle.term_core.specs.Characters.{is_symbol, is_point, opens_comment};
+ghost use Rattle.term_core.specs.Characters.{is_symbol, opens_comment};
 ghost use Rattle.ciao_tokens.specs.Layout.{is_blank};
 ghost use Rattle.ciao_tokens.specs.Forms.{ends_or_starts};
 ghost use Rattle.ciao_tokens.specs.Classes.{class_of};
@@ -9,9 +9,9 @@ ghost use Rattle.ciao_tokens.specs.Scanning.{Begins, Finds, Gives, run, behind_r
 ghost use Rattle.ciao_tokens.specs.declared.classes.Class.TheVariants as Class;
 
 use crate::classes::is_blank;
-use crate::layout::{block_comment, opens_comment};
+use crate::layout::block_comment;
 use crate::parts::{Found, Part, split};
-use term_core::is_symbol;
+use term_core::{is_point, is_symbol, opens_comment};
 
 /// The token of one byte that is no name.
 pub(crate) fn mark(byte: u8, text: &str) -> Found<'_>
@@ -58,15 +58,6 @@ fn split_symbols(text: &str) -> (&str, &str)
     split(text, symbol_bytes(text))
 }
 
-fn is_point(word: &str) -> bool
-    ensures { result ≡ is_point word.now }
-{
-    match word.as_bytes() {
-        [byte] => *byte == b'.',
-        _ => false,
-    }
-}
-
 // Whether the text ends here, or layout comes first.
 fn may_follow_end(text: &str) -> bool
     ensures { result ≡ ends_or_starts (λ c. is_blank c || c == 37) text.now }
@@ -84,7 +75,7 @@ fn symbol_run(text: &str) -> Option<Found<'_>>
     ensures { Gives text.now result }
 {
     let (word, behind) = split_symbols(text);
-    if !is_point(word) {
+    if !is_point(word.as_bytes()) {
         return Some(Found {
             part: Part::Name(word),
             behind,
@@ -105,7 +96,7 @@ pub(crate) fn symbols(text: &str) -> Option<Found<'_>>
     requires { Begins Class.Symbol text.now }
     ensures { Gives text.now result }
 {
-    if opens_comment(text) {
+    if opens_comment(text.as_bytes()) {
         block_comment(text)
     } else {
         symbol_run(text)

@@ -1,6 +1,6 @@
 use Rattle.std.proofs.Common.{rules, ◌≡◌, ◌∙◌, map, string_bytes, subst, sym}
-use Rattle.term_core.specs.Lists.{IsPrefix}
 use Rattle.term_core.specs.Names.{fixed_names}
+use Rattle.term_core.specs.Lists.{IsPrefix}
 use Rattle.term_core.proofs.Copies.{same_mapped}
 use Rattle.term_core.proofs.names.Names.copy.Goals as goal
 
