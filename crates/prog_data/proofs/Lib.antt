@@ -1,4 +1,8 @@
+mod ArithmeticValues
+mod ControlTable
 pub mod GoalFolds
 pub mod Leaves
 pub mod MembershipLaws
-pub mod Persistence
+mod Persistence
+mod ProgramParts
+mod RangeLaws

@@ -1,5 +1,5 @@
 -- The value of an arithmetic term, or its first fault.
-use Rattle.std.specs.Prelude.{ℕ, ◌==◌, ◌^◌, ◌&&◌, ◌||◌, List, [], ◌∷◌, if◌then◌else◌, ℤ, pos, ◌+ℤ◌, ◌-ℤ◌, ◌*ℤ◌, neg_ℤ, int_lt, int_le, int_div, int_rem}
+use Rattle.std.specs.Prelude.{◌≡◌, true, ℕ, ◌==◌, ◌^◌, ◌&&◌, ◌||◌, List, [], ◌∷◌, if◌then◌else◌, ℤ, pos, ◌+ℤ◌, ◌-ℤ◌, ◌*ℤ◌, neg_ℤ, int_lt, int_le, int_div, int_rem}
 use Rattle.std.specs.Prelude.{Ok, Err}
 use Rattle.std.specs.declared.result.Result.{Result}
 use Rattle.std.specs.Ordering.{int_eq}
@@ -8,6 +8,7 @@ use Rattle.term_core.specs.declared.terms.Term.TheOpen.{Term-F, Var, Int, Atom, 
 use Rattle.term_core.specs.declared.terms.Term.TheFolds.{fold-Term}
 use Rattle.prog_data.specs.declared.events.ArithKind.{ArithKind}
 use Rattle.prog_data.specs.declared.events.ArithKind.TheVariants.{Overflow, ZeroDivisor, Unbound, NotNumber}
+use Rattle.term_core.specs.Terms.{is_ground}
 use Rattle.term_core.specs.declared.fixed.TheConstants.{PLUS, MINUS, TIMES, QUOTIENT, REMAINDER, MODULO}
 
 -- a number, or a fault of arithmetic
@@ -60,3 +61,7 @@ value_step (Node f vs) = apply f vs
 -- the value of a term, or its first fault
 abbrev pub value : Term → Number
 value = fold-Term Number value_step
+
+-- what has a value has no variables
+abbrev pub ValuesAreGround : Type 0
+ValuesAreGround = (t : Term) (n : ℤ) → value t ≡ Ok n → is_ground t ≡ true

@@ -6,3 +6,9 @@ pub mod BasicNames
 pub mod GrammarRange
 pub mod Values
 pub mod Laws
+pub mod Refusals
+pub mod Control
+pub mod ControlLaws
+pub mod Ranges
+pub mod RangeLaws
+pub mod Programs

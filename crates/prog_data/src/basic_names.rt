@@ -1,11 +1,42 @@
 // The grammar names that every program has.
 ghost use Rattle.std.specs.Prelude.{◌≡◌, [], ◌∷◌, IfOk};
 ghost use Rattle.prog_data.specs.BasicNames.{basic_grammar};
+ghost use Rattle.prog_data.specs.GrammarRange.{IsGrammar};
 
 use crate::{Basic, Grammar, Rule};
 use sqlite_items::Items;
 use std::alloc::Global;
 use term_core::NoMemory;
+
+/// The grammar name term.
+pub const TERM_TYPE: u64 = 0;
+
+/// The grammar name int.
+pub const INT_TYPE: u64 = 1;
+
+/// The grammar name nnegint.
+pub const NNEGINT_TYPE: u64 = 2;
+
+/// The grammar name num.
+pub const NUM_TYPE: u64 = 3;
+
+/// The grammar name atm.
+pub const ATM_TYPE: u64 = 4;
+
+/// The grammar name gnd.
+pub const GND_TYPE: u64 = 5;
+
+/// The grammar name constant.
+pub const CONSTANT_TYPE: u64 = 6;
+
+/// The grammar name struct.
+pub const STRUCT_TYPE: u64 = 7;
+
+/// The grammar name callable.
+pub const CALLABLE_TYPE: u64 = 8;
+
+/// The grammar name list.
+pub const LIST_TYPE: u64 = 9;
 
 // A name with one rule.
 fn one_rule(alloc: Global, rule: Rule) -> Result<Items<Rule>, NoMemory>
@@ -49,7 +80,8 @@ fn first_names(alloc: Global) -> Result<Items<Items<Rule>>, NoMemory>
 /// The grammar of the basic names, which are term, int, nnegint, num, atm, gnd, constant, struct,
 /// callable and list, numbered from 0 (Ciao manual, "Basic data types and properties").
 pub fn basic_grammar(alloc: Global) -> Result<Grammar, NoMemory>
-    ensures { IfOk result (λ grammar. grammar ≡ basic_grammar) }
+    ensures is { IfOk result (λ grammar. grammar ≡ basic_grammar) }
+    ensures range { IfOk result (λ grammar. IsGrammar grammar) }
 {
     let mut rules = first_names(alloc)?;
     rules.push(one_rule(alloc, Rule::Basic(Basic::Gnd))?)?;
