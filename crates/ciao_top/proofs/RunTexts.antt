@@ -1,5 +1,5 @@
 -- What a run tells, one event at a time.
-use Rattle.std.proofs.Common.{◌≡◌, ℕ, List, [], ◌∷◌, ◌++◌, take, refl, ◌∙◌, sym, ap, subst, Option, Some, None, flat_map, MatchOption, IfNone}
+use Rattle.std.proofs.Common.{◌≡◌, ℕ, List, [], ◌∷◌, ◌++◌, take, refl, ◌∙◌, sym, ap, subst, Option, Some, None, flat_map, MatchOption, IfNone, IsSome, is_some, true≢false}
 use Rattle.std.proofs.lemmas.List.{append_assoc}
 use Rattle.std.proofs.lemmas.Option.{none-some}
 use Rattle.byte_io.specs.Outside.{grown, GrewByPrefix}
@@ -10,12 +10,11 @@ use Rattle.prog_data.specs.declared.events.Event.{Event}
 use Rattle.prog_data.specs.declared.events.Event.TheVariants.{Out, Answer, End}
 use Rattle.prog_data.specs.declared.events.Ending.{Ending}
 use Rattle.prog_data.specs.Goals.{called_by}
-use Rattle.machine_model.specs.State.{Phase, Going}
+use Rattle.machine_model.specs.State.{Phase}
 use Rattle.machine_model.specs.Reading.{every_condition}
-use Rattle.machine_model.specs.Run.{RunsFrom, start_of}
 use Rattle.sld_engine.specs.declared.run.Run as engine
 use Rattle.sld_engine.specs.Continues.{Continues, IsNext, Tells}
-use Rattle.sld_engine.specs.Runs.{phase_of, program_of, bound_of, HasTold}
+use Rattle.sld_engine.specs.Runs.{phase_of, program_of, bound_of, Starts, HasTold}
 use Rattle.ciao_top.specs.Words.{Word}
 use Rattle.ciao_top.specs.RunText.{RunText, event_text, ending_text, ending_status}
 use Rattle.ciao_top.specs.Answers.{IsPrefix}
@@ -137,28 +136,27 @@ told_at program old new event same told =
     (record { before = told.before; after = told.after; was = told.was; is = told.is; next = told.next (λ quoted. Printed (program_of old).names (program_of old).ops quoted) })
 
 -- the run of a query from its start
-module _ (program : Program) (predicate : ℕ) (query : Term) (bound : ℕ) (calls : called_by program query ≡ Some predicate) where
-  to_call : (phase : Option Phase) → phase ≡ Some (Going (start_of predicate query)) → (text : Word) (status : ℕ) → RunTells program bound phase text status → CallAnswers program query bound text status
-  to_call phase start text status x =
-      let runs : (tests : ℕ) × RunsFrom (λ quoted. Printed program.names program.ops quoted) (every_condition program) program bound (start_of predicate query) x.events tests x.ending =
-      subst (λ p. Comes_from program bound p x.events x.ending) (same_some x.now (Going (start_of predicate query)) phase x.is_now start) x.continues in
-      Ran x.events x.ending (runs.0, record { pred = predicate; calls = calls; runs = runs.1 }) x.text_is x.status_is
+module _ (program : Program) (query : Term) (bound : ℕ) (run : engine.Run) (starts : Starts program query bound run) where
+  to_call : (text : Word) (status : ℕ) → RunTells program bound (phase_of run) text status → CallAnswers program query bound text status
+  to_call text status x =
+      let comes = subst (λ p. Comes_from program bound p x.events x.ending) (same_some x.now starts.first (phase_of run) x.is_now starts.is) x.continues in
+      Ran x.events x.ending (starts.forth (λ quoted. Printed program.names program.ops quoted) x.events x.ending comes) x.text_is x.status_is
 
-  from_call : (phase : Option Phase) → phase ≡ Some (Going (start_of predicate query)) → (text : Word) (status : ℕ) → CallAnswers program query bound text status → RunTells program bound phase text status
-  from_call phase start text status (NotExported none line is) = absurd (none-some predicate (sym none ∙ calls))
-  from_call phase start text status (Ran events e run text_is status_is) = record {
-    now = Going (start_of predicate query);
-    is_now = start;
+  from_call : IsSome (called_by program query) → (text : Word) (status : ℕ) → CallAnswers program query bound text status → RunTells program bound (phase_of run) text status
+  from_call called text status (NotExported none line is) = absurd (true≢false (sym called ∙ ap is_some none))
+  from_call called text status (Ran events e ran text_is status_is) = record {
+    now = starts.first;
+    is_now = starts.is;
     events = events;
     ending = e;
-    continues = (run.0, subst (λ p. RunsFrom (λ quoted. Printed program.names program.ops quoted) (every_condition program) program bound (start_of p query) events run.0 e) (same_some run.1.pred predicate (called_by program query) run.1.calls calls) run.1.runs);
+    continues = starts.back (λ quoted. Printed program.names program.ops quoted) events e ran;
     text_is = text_is;
     status_is = status_is;
   }
 
   -- what the run tells from its start answers the query
-  pub run_answers : (b : ℕ) (phase : Option Phase) (writing : Type 0) (old new : Option Word) (result : ℕ) → b ≡ bound → phase ≡ Some (Going (start_of predicate query))
-      → Comes (RunTells program b phase) writing old new result → Comes (CallAnswers program query bound) writing old new result
-  run_answers b phase writing old new result same start comes =
-      comes_as (RunTells program bound phase) (CallAnswers program query bound) writing old new result (to_call phase start) (from_call phase start)
-      (subst (λ n. Comes (RunTells program n phase) writing old new result) same comes)
+  pub run_answers : (b : ℕ) (writing : Type 0) (old new : Option Word) (result : ℕ) → IsSome (called_by program query) → b ≡ bound
+      → Comes (RunTells program b (phase_of run)) writing old new result → Comes (CallAnswers program query bound) writing old new result
+  run_answers b writing old new result called same comes =
+      comes_as (RunTells program bound (phase_of run)) (CallAnswers program query bound) writing old new result to_call (from_call called)
+      (subst (λ n. Comes (RunTells program n (phase_of run)) writing old new result) same comes)

@@ -1,5 +1,5 @@
 // The writing of a run.
-ghost use Rattle.std.specs.Prelude.{◌≡◌, ◌⊎◌, ◌≤◌, ◌^◌, true, Some, IfErr, IfNone, OnOk, OnErr, MatchOption};
+ghost use Rattle.std.specs.Prelude.{◌≡◌, ◌⊎◌, ◌≤◌, ◌^◌, true, IfErr, IfNone, IsSome, OnOk, OnErr, MatchOption};
 ghost use Rattle.byte_io.specs.Outside.{Rose, grown, GrewByPrefix};
 ghost use Rattle.prog_data.specs.Goals.{called_by};
 ghost use Rattle.sld_engine.specs.Built.{is_built};
@@ -97,21 +97,20 @@ fn write_run<S: Sink>(alloc: Global, program: &Program, run: &mut Run<'_>, out: 
     }
 }
 
-/// Writes the run of a query, which calls the predicate with this number, and gives its status.
+/// Writes the run of a query, which is a call of an exported predicate, and gives its status.
 pub(crate) fn answer_run<S: Sink>(
     alloc: Global,
     program: &Program,
-    predicate: u64,
     query: &Term,
     bound: u64,
     out: &mut S,
 ) -> u8
     requires built { is_built program.now ≡ true }
-    requires calls { called_by program.now query.now ≡ Some predicate }
+    requires calls { IsSome (called_by program.now query.now) }
     ensures comes { Comes (CallAnswers program.now query.now bound) (Rose (S.faults out.old) (S.faults out.new)) (S.written out.old) (S.written out.new) result }
     ensures sink { DeviceGoesOn (S.steady out.old) (S.steady out.new) (S.faults out.old) (S.faults out.new) }
 {
-    match Run::new(alloc, program, predicate, query, bound) {
+    match Run::new(alloc, program, query, bound) {
         Err(_) => 9,
         Ok(run) => {
             let mut run = run;

@@ -9,7 +9,7 @@ use Rattle.prog_data.specs.declared.grammars.Grammar.{Grammar}
 use Rattle.prog_data.specs.declared.programs.Program.{Program}
 use Rattle.prog_data.specs.Conditions.{kind_of, is_calls, is_success, is_comp, calls_hold, pre_holds}
 use Rattle.sld_engine.specs.Built.{is_not_comp}
-use Rattle.sld_engine.specs.Testing.{success_pre_holds, is_broken_at_call, is_noted}
+use Rattle.sld_engine.specs.Testing.{is_broken_at_call, is_noted}
 
 -- a test of those that pass another one, as one test
 filter_both : (p q r : ℕ → Bool) → ((c : ℕ) → (q c ≡ true → p c ≡ r c) × (q c ≡ false → r c ≡ false)) → (cs : List ℕ) → filter p (filter q cs) ≡ filter r cs
@@ -26,11 +26,10 @@ calls_kind g args (Some (Success pre post)) = (λ e. refl, λ e. refl)
 calls_kind g args (Some (Comp pre property)) = (λ e. refl, λ e. refl)
 calls_kind g args None = (λ e. refl, λ e. refl)
 
-success_kind : (g : Grammar) (args : List Term) (k : Option CondKind) → (is_success k ≡ true → pre_holds g args k ≡ success_pre_holds g args k) × (is_success k ≡ false → success_pre_holds g args k ≡ false)
-success_kind g args (Some (Calls ds)) = (λ e. cc, λ e. refl)
-success_kind g args (Some (Success pre post)) = (λ e. refl, λ e. cc)
-success_kind g args (Some (Comp pre property)) = (λ e. cc, λ e. refl)
-success_kind g args None = (λ e. cc, λ e. refl)
+-- a test under a condition, as one test
+guarded : (a b : Bool) → (a ≡ true → b ≡ (a && b)) × (a ≡ false → (a && b) ≡ false)
+guarded true b = (λ e. refl, λ e. cc)
+guarded false b = (λ e. cc, λ e. refl)
 
 module _ (program : Program) (args : List Term) where
   -- only calls conditions are broken at a call
@@ -39,7 +38,7 @@ module _ (program : Program) (args : List Term) where
 
   -- only success conditions are noted
   pub noted_success : (cs : List ℕ) → filter (λ c. pre_holds program.grammar args (kind_of program c)) (filter (λ c. is_success (kind_of program c)) cs) ≡ filter (is_noted program args) cs
-  noted_success = filter_both (λ c. pre_holds program.grammar args (kind_of program c)) (λ c. is_success (kind_of program c)) (is_noted program args) (λ c. success_kind program.grammar args (kind_of program c))
+  noted_success = filter_both (λ c. pre_holds program.grammar args (kind_of program c)) (λ c. is_success (kind_of program c)) (is_noted program args) (λ c. guarded (is_success (kind_of program c)) (pre_holds program.grammar args (kind_of program c)))
 
 -- no condition is put into a mark
 pub no_comp : (program : Program) (cs : List ℕ) → list_all (is_not_comp program) cs ≡ true → filter (λ c. is_comp (kind_of program c)) cs ≡ []

@@ -1,4 +1,3 @@
-pub mod Belonging
 pub mod Built
 pub mod Continues
 pub mod Moves
