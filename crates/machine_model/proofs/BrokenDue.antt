@@ -20,7 +20,7 @@ use Rattle.prog_data.specs.Goals.{pred_of}
 use Rattle.prog_data.proofs.Leaves.{In, here, in_cases, filter_in}
 use Rattle.prog_data.proofs.MembershipLaws.{in_contains}
 use Rattle.machine_model.specs.State.{Item, Does, CutTo, Exits, Frame, Call, Choice, Resume, Try, Mark, Current, Doing, Solving, Failed, State, Going, Over, Trace}
-use Rattle.machine_model.specs.Reading.{every_condition, all_looks}
+use Rattle.machine_model.specs.Tests.{every_condition, all_looks}
 use Rattle.machine_model.specs.Step.{step, step_at, frame_step, goal_step, call_made, builtin_step, failure_step, try_step, solving_step, after_tests, quietly, frame_of, mark_of, mark_conds, mark_exited, Effect, Succeeds, Fails, Writes, Equates, Becomes, Faults, effect}
 use Rattle.machine_model.specs.Points.{IsCall, IsExit, IsFailure, Due, at_call, at_exit, at_fails, at_later_exit, at_failure}
 
@@ -36,7 +36,7 @@ not_true : (b : Bool) → not b ≡ true → b ≡ false
 not_true true e = cc
 not_true false e = refl
 
-module _ (text : Bool → Term → List ℕ) (program : Program) (bound : ℕ) (c : ℕ) (s : State) where
+module _ (program : Program) (bound : ℕ) (c : ℕ) (s : State) where
   abbrev pub IsBroken : Type 0
   IsBroken = Due program bound c s (kind_of program c) false
 
@@ -77,7 +77,7 @@ module _ (text : Bool → Term → List ℕ) (program : Program) (bound : ℕ) (
   Ends t = t.phase ≡ Over (ending.Violated c)
 
   call_broken : (f : Frame) (g : Goal) (h : ℕ) (place : Place) (rest : List Item) (p : ℕ) (args : List Term) → s.current ≡ Doing f → f.items ≡ Does g h place ∷ rest → out-Goal g ≡ CallGoal p args → (b : Bool) → nat_le bound s.calls ≡ b →
-      Ends (if b then quietly (Over ending.Bound) else call_made text (every_condition program) program bound s p (pred_of program p) args (frame_of rest f)) → IsBroken
+      Ends (if b then quietly (Over ending.Bound) else call_made (every_condition program) program bound s p (pred_of program p) args (frame_of rest f)) → IsBroken
   call_broken f g h place rest p args now items goal true le e = cc
   call_broken f g h place rest p args now items goal false le e =
       let i = first_broken _ _ _ c e in
@@ -86,7 +86,7 @@ module _ (text : Bool → Term → List ℕ) (program : Program) (bound : ℕ) (
       let may : s.calls < bound = grind (arith, nat_tests) in
       by_call (kind_of program c) p args (record { may = may; frame = f; now = now; first = (g, h, place, rest, items, goal) }) (in_contains (pred_of program p).conds has.0) (not_true _ broken.1)
 
-  builtin_safe : (e : Effect) (h : ℕ) (place : Place) (rest : Frame) → Ends (builtin_step text (every_condition program) program bound s e h place rest) → IsBroken
+  builtin_safe : (e : Effect) (h : ℕ) (place : Place) (rest : Frame) → Ends (builtin_step (every_condition program) program bound s e h place rest) → IsBroken
   builtin_safe Succeeds h place rest e = cc
   builtin_safe Fails h place rest e = cc
   builtin_safe (Writes bytes) h place rest e = cc
@@ -95,9 +95,9 @@ module _ (text : Bool → Term → List ℕ) (program : Program) (bound : ℕ) (
   builtin_safe (Faults kind) h place rest e = cc
 
   goal_broken : (f : Frame) (g : Goal) (h : ℕ) (place : Place) (rest : List Item) (l : Goal-F Goal) → s.current ≡ Doing f → f.items ≡ Does g h place ∷ rest → out-Goal g ≡ l →
-      Ends (goal_step text (every_condition program) program bound s l h place (frame_of rest f)) → IsBroken
+      Ends (goal_step (every_condition program) program bound s l h place (frame_of rest f)) → IsBroken
   goal_broken f g h place rest (CallGoal p args) now items goal e = call_broken f g h place rest p args now items goal (nat_le bound s.calls) refl e
-  goal_broken f g h place rest (BuiltinGoal b args) now items goal e = builtin_safe (effect text program b (slice_index_or args 0 (term.Atom 0)) (slice_index_or args 1 (term.Atom 0))) h place (frame_of rest f) e
+  goal_broken f g h place rest (BuiltinGoal b args) now items goal e = builtin_safe (effect program b (slice_index_or args 0 (term.Atom 0)) (slice_index_or args 1 (term.Atom 0))) h place (frame_of rest f) e
   goal_broken f g h place rest True now items goal e = cc
   goal_broken f g h place rest Fail now items goal e = cc
   goal_broken f g h place rest Cut now items goal e = cc
@@ -107,7 +107,7 @@ module _ (text : Bool → Term → List ℕ) (program : Program) (bound : ℕ) (
   goal_broken f g h place rest (Not a) now items goal e = cc
   goal_broken f g h place rest Exit now items goal e = cc
 
-  frame_broken : (f : Frame) (items : List Item) → s.current ≡ Doing f → f.items ≡ items → Ends (frame_step text (every_condition program) program bound s f items) → IsBroken
+  frame_broken : (f : Frame) (items : List Item) → s.current ≡ Doing f → f.items ≡ items → Ends (frame_step (every_condition program) program bound s f items) → IsBroken
   frame_broken f [] now is e = cc
   frame_broken f (Does g h place ∷ rest) now is e = goal_broken f g h place rest (out-Goal g) now is refl e
   frame_broken f (CutTo h ∷ rest) now is e = cc
@@ -121,11 +121,11 @@ module _ (text : Bool → Term → List ℕ) (program : Program) (bound : ℕ) (
           let b = filter_in (λ c. exit_breaks (mark_exited (mark_of mark s.choices)) (kind_of program c)) (mark_conds (mark_of mark s.choices)) i in
           by_mark (kind_of program c) p args noted mark (mark_of mark s.choices) refl (record { frame = f; now = now; first = (rest, is) }) b.0 b.1
 
-  try_safe : (clause : Option Clause) (call : Call) (cs : List Choice) → Ends (try_step text (every_condition program) program bound s clause call cs) → IsBroken
+  try_safe : (clause : Option Clause) (call : Call) (cs : List Choice) → Ends (try_step (every_condition program) program bound s clause call cs) → IsBroken
   try_safe None call cs e = cc
   try_safe (Some clause) call cs e = cc
 
-  failure_broken : (cs : List Choice) → s.current ≡ Failed → s.choices ≡ cs → Ends (failure_step text (every_condition program) program bound s cs) → IsBroken
+  failure_broken : (cs : List Choice) → s.current ≡ Failed → s.choices ≡ cs → Ends (failure_step (every_condition program) program bound s cs) → IsBroken
   failure_broken [] now is e = cc
   failure_broken (Resume f ∷ cs) now is e = cc
   failure_broken (Try k call ∷ cs) now is e = try_safe (slice_get (pred_of program call.pred).clauses k) call cs e
@@ -133,17 +133,17 @@ module _ (text : Bool → Term → List ℕ) (program : Program) (bound : ℕ) (
       let b = filter_in (λ c. failure_breaks exited (kind_of program c)) conds (first_broken _ _ _ c e) in
       by_failure (kind_of program c) conds exited (record { now = now; first = (p, cs, is) }) (in_contains conds b.0) b.1
 
-  solving_safe : (place : Place) (stage : Stage) (f : Frame) → Ends (solving_step text (every_condition program) program bound s place stage f) → IsBroken
+  solving_safe : (place : Place) (stage : Stage) (f : Frame) → Ends (solving_step (every_condition program) program bound s place stage f) → IsBroken
   solving_safe place (Open es bs) f e = cc
   solving_safe place (Ended (Solved bs)) f e = cc
   solving_safe place (Ended Clash) f e = cc
   solving_safe place (Ended Cyclic) f e = cc
 
-  current_broken : (cur : Current) → s.current ≡ cur → Ends (step_at text (every_condition program) program bound s cur) → IsBroken
+  current_broken : (cur : Current) → s.current ≡ cur → Ends (step_at (every_condition program) program bound s cur) → IsBroken
   current_broken (Doing f) now e = frame_broken f f.items now refl e
   current_broken (Solving place stage f) now e = solving_safe place stage f e
   current_broken Failed now e = failure_broken s.choices now refl e
 
   -- a condition that a step breaks is due and does not hold
-  pub step_broken : Ends (step text (every_condition program) program bound s) → IsBroken
+  pub step_broken : Ends (step (every_condition program) program bound s) → IsBroken
   step_broken e = current_broken s.current refl e

@@ -20,7 +20,7 @@ use Rattle.prog_data.specs.declared.events.Ending.TheVariants as ending
 use Rattle.prog_data.specs.Conditions.{kind_of, pre_holds, calls_hold, post_holds, exit_breaks, failure_breaks}
 use Rattle.prog_data.specs.Goals.{pred_of}
 use Rattle.machine_model.specs.State.{Item, Frame, Call, Choice, Try, Current, Doing, Failed, State, Phase, Going, Over, Trace, cut}
-use Rattle.machine_model.specs.Reading.{Reading, Looks, every_condition, all_looks, only_looks}
+use Rattle.machine_model.specs.Tests.{Tests, Looks, every_condition, all_looks, only_looks}
 use Rattle.machine_model.specs.Step.{step, frame_step, goal_step, call_step, call_made, builtin_step, failure_step, try_step, solving_step, after_tests, tries, with_mark, mark_height, quietly, Effect, Succeeds, Fails, Writes, Equates, Becomes, Faults, effect}
 use Rattle.machine_model.proofs.DropRelation.{Kind, Plain, plain, Older, whole, newer, older_older, Marks, Items, does, cuts, exits, items_over, items_instance, Frames, frames, Calls, calls, calls_over, Choices, resume, try, kept, dropped, Currents, doing, solving, failed, States, states, length_kinds, plain_kinds, cut_choices, filter_filter, Agree, filter_kept, exit_related, Marked, mark_new}
 use Rattle.machine_model.proofs.DropRelation as rel
@@ -89,24 +89,24 @@ abbrev pub with_preds : Program → List Pred → List Cond → List Claim → P
 with_preds program preds conds claims = record program { preds = preds; conds = conds; claims = claims }
 
 -- these looks, and an exit after each body
-abbrev pub looking : (Pred → Looks) → Reading
+abbrev pub looking : (Pred → Looks) → Tests
 looking looks = record { looks = looks; exits = λ body. true }
 
-module _ (text : Bool → Term → List ℕ) (program : Program) (keeps : ℕ → Bool) (preds : List Pred) (conds : List Cond) (claims : List Claim) (looks : Pred → Looks) (fewer : Fewer keeps program (with_preds program preds conds claims) looks) (bound : ℕ) where
-  abbrev pub every : Reading
+module _ (program : Program) (keeps : ℕ → Bool) (preds : List Pred) (conds : List Cond) (claims : List Claim) (looks : Pred → Looks) (fewer : Fewer keeps program (with_preds program preds conds claims) looks) (bound : ℕ) where
+  abbrev pub every : Tests
   every = every_condition program
 
   abbrev pub less : Program
   less = with_preds program preds conds claims
 
-  abbrev pub some : Reading
+  abbrev pub some : Tests
   some = looking looks
 
   abbrev pub one : State → Trace
-  one = step text every program bound
+  one = step every program bound
 
   abbrev pub other : State → Trace
-  other = step text some less bound
+  other = step some less bound
 
   -- tests of conditions by their kinds agree on those that are kept
   agrees : (test : Option CondKind → Bool) → Agree keeps (λ c. test (kind_of less c)) (λ c. test (kind_of program c))
@@ -129,7 +129,7 @@ module _ (text : Bool → Term → List ℕ) (program : Program) (keeps : ℕ �
         goes r (doing (frames items))
 
     builtin_alike : {ks : List Kind} (cs cs' : List Choice) (c c' : Current) (e : Effect) (h h' : ℕ) (place : Place) (is is' : List Item) (query : Term) (js : List Kind) → Choices keeps ks cs cs' → Older ks js → h ≡ length js → h' ≡ plain js → Items keeps js is is' →
-        Alike keeps (builtin_step text every program bound (at cs c) e h place (record { items = is; query = query })) (builtin_step text some less bound (at cs' c') e h' place (record { items = is'; query = query }))
+        Alike keeps (builtin_step every program bound (at cs c) e h place (record { items = is; query = query })) (builtin_step some less bound (at cs' c') e h' place (record { items = is'; query = query }))
     builtin_alike cs cs' c c' Succeeds h h' place is is' query js ch o e e' items = goes ch (doing (frames (items_over keeps o items)))
     builtin_alike cs cs' c c' Fails h h' place is is' query js ch o e e' items = goes ch failed
     builtin_alike cs cs' c c' (Writes bytes) h h' place is is' query js ch o e e' items = record { events = refl; phases = on (states ch (doing (frames (items_over keeps o items)))) }
@@ -138,14 +138,14 @@ module _ (text : Bool → Term → List ℕ) (program : Program) (keeps : ℕ �
     builtin_alike cs cs' c c' (Faults kind) h h' place is is' query js ch o e e' items = record { events = refl; phases = over }
 
     call_follows : {ks : List Kind} (cs cs' : List Choice) (c c' : Current) (p : ℕ) (args : List Term) (is is' : List Item) (query : Term) → Choices keeps ks cs cs' → Items keeps ks is is' →
-        Follows keeps (call_step text every program bound (at cs c) p (pred_of program p) args (record { items = is; query = query })) (at cs' c') (call_step text some less bound (at cs' c') p (pred_of less p) args (record { items = is'; query = query }))
+        Follows keeps (call_step every program bound (at cs c) p (pred_of program p) args (record { items = is; query = query })) (at cs' c') (call_step some less bound (at cs' c') p (pred_of less p) args (record { items = is'; query = query }))
     call_follows {ks} cs cs' c c' p args is is' query ch items = by_bound (nat_le bound n)
       where
         -- the call is made with these looks and clauses
         other_made : Looks → List Clause → Trace
-        other_made l cl = call_made text (looking (λ pred. l)) less bound (at cs' c') p (record (pred_of less p) { clauses = cl }) args (record { items = is'; query = query })
+        other_made l cl = call_made (looking (λ pred. l)) less bound (at cs' c') p (record (pred_of less p) { clauses = cl }) args (record { items = is'; query = query })
 
-        made_with : Follows keeps (call_made text every program bound (at cs c) p (pred_of program p) args (record { items = is; query = query })) (at cs' c') (other_made (only_looks keeps (all_looks program (pred_of program p))) (pred_of program p).clauses)
+        made_with : Follows keeps (call_made every program bound (at cs c) p (pred_of program p) args (record { items = is; query = query })) (at cs' c') (other_made (only_looks keeps (all_looks program (pred_of program p))) (pred_of program p).clauses)
         made_with =
             let l = all_looks program (pred_of program p) in
             let pre : ℕ → Bool = λ c. pre_holds program.grammar args (kind_of program c) in
@@ -158,23 +158,23 @@ module _ (text : Bool → Term → List ℕ) (program : Program) (keeps : ℕ �
             _ _ (calls m.kinds whole (sym (length_kinds keeps m.choices)) (sym (plain_kinds keeps m.choices)) (filter_kept keeps pre' pre agree l.notes) m.mark (frames (items_over keeps m.older items))) m.choices in
             tested keeps _ _ _ _ _ _ _ (filter_kept keeps _ _ (agrees (λ k. not (calls_hold program.grammar args k))) l.calls) (record { events = refl; phases = on (states {ks = t.0} t.2 failed) })
 
-        made : Follows keeps (call_made text every program bound (at cs c) p (pred_of program p) args (record { items = is; query = query })) (at cs' c') (call_made text some less bound (at cs' c') p (pred_of less p) args (record { items = is'; query = query }))
-        made = subst (λ l. Follows keeps (call_made text every program bound (at cs c) p (pred_of program p) args (record { items = is; query = query })) (at cs' c') (other_made l (pred_of less p).clauses)) (sym (fewer.looks_are p))
-            (subst (λ cl. Follows keeps (call_made text every program bound (at cs c) p (pred_of program p) args (record { items = is; query = query })) (at cs' c') (other_made (only_looks keeps (all_looks program (pred_of program p))) cl)) (sym (fewer.clauses_are p)) made_with)
+        made : Follows keeps (call_made every program bound (at cs c) p (pred_of program p) args (record { items = is; query = query })) (at cs' c') (call_made some less bound (at cs' c') p (pred_of less p) args (record { items = is'; query = query }))
+        made = subst (λ l. Follows keeps (call_made every program bound (at cs c) p (pred_of program p) args (record { items = is; query = query })) (at cs' c') (other_made l (pred_of less p).clauses)) (sym (fewer.looks_are p))
+            (subst (λ cl. Follows keeps (call_made every program bound (at cs c) p (pred_of program p) args (record { items = is; query = query })) (at cs' c') (other_made (only_looks keeps (all_looks program (pred_of program p))) cl)) (sym (fewer.clauses_are p)) made_with)
 
-        by_bound : (b : Bool) → Follows keeps (if b then quietly (Over ending.Bound) else call_made text every program bound (at cs c) p (pred_of program p) args (record { items = is; query = query })) (at cs' c')
-            (if b then quietly (Over ending.Bound) else call_made text some less bound (at cs' c') p (pred_of less p) args (record { items = is'; query = query }))
+        by_bound : (b : Bool) → Follows keeps (if b then quietly (Over ending.Bound) else call_made every program bound (at cs c) p (pred_of program p) args (record { items = is; query = query })) (at cs' c')
+            (if b then quietly (Over ending.Bound) else call_made some less bound (at cs' c') p (pred_of less p) args (record { items = is'; query = query }))
         by_bound true = moves (record { events = refl; phases = over })
         by_bound false = made
 
     goal_follows : {ks : List Kind} (cs cs' : List Choice) (c c' : Current) (g : Goal-F Goal) (h h' : ℕ) (place : Place) (is is' : List Item) (query : Term) (js : List Kind) → Choices keeps ks cs cs' → Older ks js → h ≡ length js → h' ≡ plain js → Items keeps js is is' →
-        Follows keeps (goal_step text every program bound (at cs c) g h place (record { items = is; query = query })) (at cs' c') (goal_step text some less bound (at cs' c') g h' place (record { items = is'; query = query }))
+        Follows keeps (goal_step every program bound (at cs c) g h place (record { items = is; query = query })) (at cs' c') (goal_step some less bound (at cs' c') g h' place (record { items = is'; query = query }))
     goal_follows cs cs' c c' True h h' place is is' query js ch o e e' items = moves (goes ch (doing (frames (items_over keeps o items))))
     goal_follows cs cs' c c' Fail h h' place is is' query js ch o e e' items = moves (goes ch failed)
     goal_follows cs cs' c c' Cut h h' place is is' query js ch o e e' items = moves (goes_cut js ch o e e' items)
     goal_follows cs cs' c c' (CallGoal p args) h h' place is is' query js ch o e e' items = call_follows cs cs' c c' p args is is' query ch (items_over keeps o items)
     goal_follows cs cs' c c' (BuiltinGoal b args) h h' place is is' query js ch o e e' items =
-        moves (builtin_alike cs cs' c c' (effect text program b (slice_index_or args 0 (term.Atom 0)) (slice_index_or args 1 (term.Atom 0))) h h' place is is' query js ch o e e' items)
+        moves (builtin_alike cs cs' c c' (effect program b (slice_index_or args 0 (term.Atom 0)) (slice_index_or args 1 (term.Atom 0))) h h' place is is' query js ch o e e' items)
     goal_follows cs cs' c c' (Conj a b) h h' place is is' query js ch o e e' items = moves (goes ch (doing (frames (does js o e e' (does js whole e e' items)))))
     goal_follows cs cs' c c' (Disj a b) h h' place is is' query js ch o e e' items =
         moves (goes (resume (frames (does js o e e' items)) ch) (doing (frames (does js (newer o) e e' items))))
@@ -187,7 +187,7 @@ module _ (text : Bool → Term → List ℕ) (program : Program) (keeps : ℕ �
     goal_follows cs cs' c c' Exit h h' place is is' query js ch o e e' items = moves (goes ch (doing (frames (items_over keeps o items))))
 
     frame_follows : {ks : List Kind} (cs cs' : List Choice) (c c' : Current) (is is' : List Item) (query : Term) → Choices keeps ks cs cs' → Items keeps ks is is' →
-        Follows keeps (frame_step text every program bound (at cs c) (record { items = is; query = query }) is) (at cs' c') (frame_step text some less bound (at cs' c') (record { items = is'; query = query }) is')
+        Follows keeps (frame_step every program bound (at cs c) (record { items = is; query = query }) is) (at cs' c') (frame_step some less bound (at cs' c') (record { items = is'; query = query }) is')
     frame_follows cs cs' c c' is is' query ch rel.none = moves (record { events = refl; phases = on (states ch failed) })
     frame_follows cs cs' c c' is is' query ch (does {g = g} {h = h} {h' = h'} {place = place} {rest = rest} {rest' = rest'} js o e e' items) = goal_follows cs cs' c c' (out-Goal g) h h' place rest rest' query js ch o e e' items
     frame_follows cs cs' c c' is is' query ch (cuts js o e e' items) = moves (goes_cut js ch o e e' items)
@@ -201,19 +201,19 @@ module _ (text : Bool → Term → List ℕ) (program : Program) (keeps : ℕ �
             ap (λ xs. filter test' xs ++ by_mark') e ∙ ap (λ xs. xs ++ by_mark') (filter_kept keeps test' test agree noted) ∙ ap (λ ys. filter keeps (filter test noted) ++ ys) e' ∙ sym (filter-append keeps (filter test noted) by_mark)
 
     try_follows : {ks : List Kind} (ds ds' cs cs' : List Choice) (clause : Option Clause) (call call' : Call) → Choices keeps ks cs cs' → Calls keeps ks call call' →
-        Follows keeps (try_step text every program bound (at ds Failed) clause call cs) (at ds' Failed) (try_step text some less bound (at ds' Failed) clause call' cs')
+        Follows keeps (try_step every program bound (at ds Failed) clause call cs) (at ds' Failed) (try_step some less bound (at ds' Failed) clause call' cs')
     try_follows ds ds' cs cs' None call call' ch r = moves (goes ch failed)
     try_follows ds ds' cs cs' (Some clause) call call' ch (calls js o e e' same m (frames items)) =
         moves (record { events = refl; phases = on (states ch (solving (frames (does js o e e' (exits same m items))))) })
 
     failure_follows : {ks : List Kind} (cs cs' : List Choice) → Choices keeps ks cs cs' →
-        Follows keeps (failure_step text every program bound (at cs Failed) cs) (at cs' Failed) (failure_step text some less bound (at cs' Failed) cs')
+        Follows keeps (failure_step every program bound (at cs Failed) cs) (at cs' Failed) (failure_step some less bound (at cs' Failed) cs')
     failure_follows cs cs' rel.none = moves (record { events = refl; phases = over })
     failure_follows cs cs' (resume r ch) = moves (goes ch (doing r))
     failure_follows cs cs' (try {k = k} {cs = older} {cs' = older'} (calls {p = p} {args = args} {noted = noted} {noted' = noted'} {mark = m} {mark' = m'} {h = h} {h' = h'} {rest = rest} {rest' = rest'} js o e e' same r f) ch) =
         let call : Call = record { pred = p; args = args; noted = noted; mark = m; height = h; rest = rest } in
         let call' : Call = record { pred = p; args = args; noted = noted'; mark = m'; height = h'; rest = rest' } in
-        subst (λ cl. Follows keeps (try_step text every program bound (at (Try k call ∷ older) Failed) (slice_get (pred_of program p).clauses k) call older) (at (Try k call' ∷ older') Failed) (try_step text some less bound (at (Try k call' ∷ older') Failed) (slice_get cl k) call' older'))
+        subst (λ cl. Follows keeps (try_step every program bound (at (Try k call ∷ older) Failed) (slice_get (pred_of program p).clauses k) call older) (at (Try k call' ∷ older') Failed) (try_step some less bound (at (Try k call' ∷ older') Failed) (slice_get cl k) call' older'))
         (sym (fewer.clauses_are p)) (try_follows (Try k call ∷ older) (Try k call' ∷ older') older older' (slice_get (pred_of program p).clauses k) call call' ch (calls js o e e' same r f))
     failure_follows cs cs' (kept {p = p} {conds = conds} {e = e} {cs = older} {cs' = older'} same ch) =
         tested keeps _ _ _ _ _ _ _ (ap (filter (λ c. failure_breaks e (kind_of less c))) same ∙ filter_kept keeps _ _ (agrees (failure_breaks e)) conds) (record { events = refl; phases = on (states ch failed) })
@@ -221,7 +221,7 @@ module _ (text : Bool → Term → List ℕ) (program : Program) (keeps : ℕ �
         tested_here keeps _ _ _ _ _ (ap (filter (λ c. failure_breaks e (kind_of program c))) same ∙ filter_filter keeps (λ c. failure_breaks e (kind_of program c)) keeps conds) (states ch failed)
 
     solving_follows : {ks : List Kind} (cs cs' : List Choice) (c c' : Current) (place : Place) (stage : Stage) (f f' : Frame) → Choices keeps ks cs cs' → Frames keeps ks f f' →
-        Follows keeps (solving_step text every program bound (at cs c) place stage f) (at cs' c') (solving_step text some less bound (at cs' c') place stage f')
+        Follows keeps (solving_step every program bound (at cs c) place stage f) (at cs' c') (solving_step some less bound (at cs' c') place stage f')
     solving_follows cs cs' c c' place (Open es bs) f f' ch r = moves (goes ch (solving r))
     solving_follows cs cs' c c' place (Ended (Solved bs)) f f' ch (frames items) = moves (goes ch (doing (frames (items_instance keeps (values bs) items))))
     solving_follows cs cs' c c' place (Ended Clash) f f' ch r = moves (goes ch failed)

@@ -13,7 +13,7 @@ use Rattle.prog_data.specs.declared.programs.Program.{Program}
 use Rattle.prog_data.specs.declared.events.Ending.{Ending}
 use Rattle.prog_data.specs.declared.events.Ending.TheVariants as ending
 use Rattle.prog_data.specs.Goals.{pred_of, no_pred, ends_in_exit, ends_in_exit_at, without_exit_at, called_by, calls_pred, is_called}
-use Rattle.machine_model.specs.Reading.{Looks, all_looks, only_looks}
+use Rattle.machine_model.specs.Tests.{Looks, all_looks, only_looks}
 use Rattle.machine_model.specs.Erasure.{erase, erase_pred, erase_clause, HasNoExit}
 use Rattle.machine_model.specs.Laws.{Erases, IsViolated, BreaksOther}
 use Rattle.machine_model.proofs.DropSteps.{Fewer}
@@ -82,7 +82,7 @@ module _ (program : Program) where
   called_same : (query : Term) → called_by (erase program) query ≡ called_by program query
   called_same query = λ i. find (λ p. same_call query p i) program.exports
 
-pub erases : (text : Bool → Term → List ℕ) (program : Program) → Erases text program
-erases text program linked query bound =
-    let fewer = same_until text program none (map erase_pred program.preds) [] [] (all_looks (erase program)) (erased program linked) bound query (called_same program query) in
+pub erases : (program : Program) → Erases program
+erases program linked query bound =
+    let fewer = same_until program none (map erase_pred program.preds) [] [] (all_looks (erase program)) (erased program linked) bound query (called_same program query) in
     record { both = fewer.both; begins = fewer.begins; same = λ es es' e e' run other safe. fewer.same es es' e e' run other (λ broken. safe (violated_only e broken)) }

@@ -1,5 +1,5 @@
 -- What a run tests: all the conditions of a program, or the checks that an instrumented one keeps.
-use Rattle.std.specs.Prelude.{ℕ, Bool, true, List, [], ◌∷◌, filter, flat_map}
+use Rattle.std.specs.Prelude.{ℕ, Bool, true, false, List, [], ◌∷◌, filter, flat_map}
 use Rattle.prog_data.specs.declared.programs.Check.{Check}
 use Rattle.prog_data.specs.declared.programs.Check.TheVariants as check
 use Rattle.prog_data.specs.declared.goals.Goal.{Goal}
@@ -17,11 +17,13 @@ pub record Looks : Type 0 where
   -- put into a mark at the call where Pre holds
   pub marks : List ℕ
 
--- what a run tests
-pub record Reading : Type 0 where
+-- what a run tests, and what comes of it
+pub record Tests : Type 0 where
   pub looks : Pred → Looks
   -- whether the exit of a call stands after this body
   pub exits : Goal → Bool
+  -- whether a broken condition ends the run, or is told and the run goes on
+  pub stops : Bool
 
 -- all conditions of the predicate, by kind
 abbrev pub all_looks : Program → Pred → Looks
@@ -54,18 +56,22 @@ kept_looks pred = record {
   marks = flat_map checked_by_mark pred.call_checks;
 }
 
--- every condition is tested, at every call and exit
-abbrev pub every_condition : Program → Reading
-every_condition program = record { looks = all_looks program; exits = λ body. true }
+-- every condition is tested, at every call and exit, and a broken one ends the run
+abbrev pub every_condition : Program → Tests
+every_condition program = record { looks = all_looks program; exits = λ body. true; stops = true }
 
--- the call checks, and the exits that the bodies name
-abbrev pub kept_checks : Program → Reading
-kept_checks program = record { looks = kept_looks; exits = ends_in_exit }
+-- the call checks are tested, and the exits that the bodies name; a broken condition ends the run
+abbrev pub kept_checks : Program → Tests
+kept_checks program = record { looks = kept_looks; exits = ends_in_exit; stops = true }
+
+-- the same tests, where a broken condition is told and the run goes on
+abbrev pub told : Tests → Tests
+told what = record what { stops = false }
 
 -- only the conditions for which the test holds
 abbrev pub only_looks : (ℕ → Bool) → Looks → Looks
 only_looks keeps l = record { calls = filter keeps l.calls; notes = filter keeps l.notes; marks = filter keeps l.marks }
 
--- a reading with only these conditions
-abbrev pub only_kept : (ℕ → Bool) → Reading → Reading
-only_kept keeps r = record r { looks = λ pred. only_looks keeps (r.looks pred) }
+-- the tests of only these conditions
+abbrev pub only_kept : (ℕ → Bool) → Tests → Tests
+only_kept keeps what = record what { looks = λ pred. only_looks keeps (what.looks pred) }
