@@ -1,22 +1,25 @@
 -- The start of a run.
-use Rattle.std.proofs.Common.{◌≡◌, ℕ, Bool, List, Option, Some, subst}
+use Rattle.std.proofs.Common.{◌≡◌, ℕ, Option, Some, subst, ap}
+use Rattle.std.specs.Prelude.{option_map}
 use Rattle.term_core.specs.declared.terms.Term.{Term}
 use Rattle.prog_data.specs.declared.programs.Program.{Program}
 use Rattle.prog_data.specs.Goals.{called_by}
 use Rattle.machine_model.specs.State.{Going}
-use Rattle.machine_model.specs.Reading.{every_condition}
+use Rattle.machine_model.specs.Tests.{every_condition}
 use Rattle.machine_model.specs.Run.{start_of, RunsFrom}
+use Rattle.machine_model.specs.Continues.{at_phase}
 use Rattle.sld_engine.specs.declared.run.Run.{Run}
-use Rattle.sld_engine.specs.Runs.{phase_of, Starts}
+use Rattle.sld_engine.specs.Runs.{Starts}
+use Rattle.sld_engine.specs.Views.{as_phase}
 
 same_found : (p q : ℕ) (o : Option ℕ) → o ≡ Some p → o ≡ Some q → p ≡ q
 same_found p q o x y = cc
 
 -- the start of the predicate that the query calls
-pub starts : (program : Program) (query : Term) (bound p : ℕ) (r : Run) → called_by program query ≡ Some p → phase_of r ≡ Some (Going (start_of p query)) → Starts program query bound r
+pub starts : (program : Program) (query : Term) (bound p : ℕ) (r : Run) → called_by program query ≡ Some p → as_phase r.stage ≡ Some (Going (start_of p query)) → Starts program query bound r
 starts program query bound p r calls is = record {
-  first = Going (start_of p query);
-  is = is;
-  forth = λ text events e c. (c.0, record { pred = p; calls = calls; runs = c.1 });
-  back = λ text events e run. (run.0, subst (λ q. RunsFrom text (every_condition program) program bound (start_of q query) events run.0 e) (same_found run.1.pred p (called_by program query) run.1.calls calls) run.1.runs);
+  whole = at_phase (Going (start_of p query));
+  is = ap (option_map at_phase) is;
+  forth = λ events tests e c. record { pred = p; calls = calls; runs = c };
+  back = λ events tests e run. subst (λ q. RunsFrom (every_condition program) program bound (start_of q query) events tests e) (same_found run.pred p (called_by program query) run.calls calls) run.runs;
 }

@@ -1,5 +1,4 @@
 pub mod Built
-pub mod Continues
 pub mod Moves
 pub mod Parts
 pub mod Runs

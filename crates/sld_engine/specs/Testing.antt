@@ -1,5 +1,5 @@
 -- What the engine tests at calls and exits.
-use Rattle.std.specs.Prelude.{ℕ, Bool, not, ◌&&◌, List, filter}
+use Rattle.std.specs.Prelude.{ℕ, Bool, not, ◌&&◌, List, filter, find, Option}
 use Rattle.term_core.specs.declared.terms.Term.{Term}
 use Rattle.prog_data.specs.declared.programs.Program.{Program}
 use Rattle.prog_data.specs.Conditions.{kind_of, is_success, calls_hold, pre_holds, post_holds}
@@ -18,9 +18,9 @@ module _ (program : Program) (args : List Term) where
   abbrev pub is_noted : ℕ → Bool
   is_noted c = is_success (kind_of program c) && pre_holds program.grammar args (kind_of program c)
 
-  -- the conditions that a call of a predicate breaks
-  abbrev pub broken_at_call : ℕ → List ℕ
-  broken_at_call p = filter is_broken_at_call (pred_of program p).conds
+  -- the first condition of a predicate that a call breaks
+  abbrev pub broken_at_call : ℕ → Option ℕ
+  broken_at_call p = find is_broken_at_call (pred_of program p).conds
 
   -- the conditions that a call of a predicate notes
   abbrev pub noted_at_call : ℕ → List ℕ

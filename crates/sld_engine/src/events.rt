@@ -5,8 +5,10 @@ ghost use Rattle.prog_data.specs.declared.events.Ending.{Ending};
 ghost use Rattle.prog_data.specs.Goals.{parts_of, called_by};
 ghost use Rattle.machine_model.specs.State.{Going, Over};
 ghost use Rattle.machine_model.specs.Run.{start_of};
+ghost use Rattle.machine_model.specs.Continues.{at_phase};
 ghost use Rattle.sld_engine.specs.Built.{is_built};
-ghost use Rattle.sld_engine.specs.Runs.{phase_of, program_of, bound_of, Starts, HasTold};
+ghost use Rattle.sld_engine.specs.Views.{as_phase};
+ghost use Rattle.sld_engine.specs.Runs.{left_of, program_of, bound_of, Starts, HasTold};
 
 use crate::Run;
 use crate::calls::Machine;
@@ -37,7 +39,7 @@ fn calling<'p>(
     bound: u64,
 ) -> Result<Run<'p>, NoMemory>
     requires { is_built program.now ≡ true }
-    ensures phase { IfOk result (λ run. phase_of run ≡ Some (Going (start_of predicate query.now))) }
+    ensures phase { IfOk result (λ run. as_phase run.stage ≡ Some (Going (start_of predicate query.now))) }
     ensures program { IfOk result (λ run. program_of run ≡ program.now) }
     ensures bound { IfOk result (λ run. bound_of run ≡ bound) }
 {
@@ -94,9 +96,9 @@ impl<'p> Run<'p> {
     /// Only for want of memory, and in each call after one that was refused memory.
     pub fn next(&mut self) -> Result<Event, NoMemory>
         ensures told { IfOk result (λ event. HasTold self.old event self.new) }
-        ensures ended { (e : Ending) → phase_of self.old ≡ Some (Over e) → (result ≡ Ok (Event.End e)) × (phase_of self.new ≡ Some (Over e)) }
-        ensures refused { OnErr result (phase_of self.new ≡ None) }
-        ensures stuck { phase_of self.old ≡ None → IsErr result × (phase_of self.new ≡ None) }
+        ensures ended { (e : Ending) → left_of self.old ≡ Some (at_phase (Over e)) → (result ≡ Ok (Event.End e)) × (left_of self.new ≡ Some (at_phase (Over e))) }
+        ensures refused { OnErr result (left_of self.new ≡ None) }
+        ensures stuck { left_of self.old ≡ None → IsErr result × (left_of self.new ≡ None) }
         ensures program { program_of self.new ≡ program_of self.old }
         ensures bound { bound_of self.new ≡ bound_of self.old }
     {
