@@ -4,7 +4,7 @@ use Rattle.std.specs.Prelude.{find, Option, None, Some, slice_get, option_map}
 use Rattle.std.specs.Option.{option_map_or}
 use Rattle.std.proofs.lemmas.Option.{slice_get-map}
 use Rattle.prog_data.specs.declared.programs.Pred.{Pred}
-use Rattle.std.proofs.Common.{◌≡◌, ℕ, zero, suc, Bool, false, List, ◌++◌, refl, ap, sym, ◌∙◌, subst}
+use Rattle.std.proofs.Common.{◌≡◌, ℕ, zero, suc, Bool, true, false, List, ◌++◌, refl, ap, sym, ◌∙◌, subst}
 use Rattle.term_core.specs.declared.terms.Term.{Term, out-Term}
 use Rattle.prog_data.specs.declared.programs.Program.{Program}
 use Rattle.prog_data.specs.declared.events.Event.{Event}
@@ -46,7 +46,7 @@ module _ (program : Program) (statuses : List Status) (linked : HasNoExit progra
   pub run_follows : (k : ℕ) (p p' : Phase) → Phases program statuses p p' → Matched k p p'
   run_follows zero p p' h = (0, refl, h)
   run_follows (suc k) p p' (over {e = e}) = (0, refl, over)
-  run_follows (suc k) p p' (on {s} {s'} r) = after_step k s' (step (only_kept (is_kept statuses) (every_condition program)) program bound s) (run_follows k) (step_follows program statuses linked bound s s' r)
+  run_follows (suc k) p p' (on {s} {s'} r) = after_step k s' (step (only_kept (is_kept statuses) (every_condition program)) program bound s) (run_follows k) (step_follows true program statuses linked bound s s' r)
 
   start_states : (p : ℕ) (query : Term) → States program statuses (start_of p query) (start_of p query)
   start_states p query = states rel.none (doing (frames (same rel.none)))

@@ -16,7 +16,7 @@ use Rattle.prog_data.specs.Goals.{pred_of}
 use Rattle.prog_data.specs.declared.events.Ending.TheVariants as ending
 use Rattle.machine_model.specs.State.{Item, Does, CutTo, Exits, Frame, Call, Choice, Resume, Try, Mark, Current, Doing, Solving, Failed, State, Phase, Going, Over, Trace}
 use Rattle.machine_model.specs.Tests.{Tests}
-use Rattle.machine_model.specs.Step.{step, step_at, frame_step, goal_step, call_step, call_made, quietly, builtin_step, failure_step, try_step, solving_step, after_tests, Effect, Succeeds, Fails, Writes, Equates, Becomes, Faults, effect}
+use Rattle.machine_model.specs.Step.{step, step_at, frame_step, goal_step, call_step, call_made, quietly, builtin_step, failure_step, try_step, solving_step, Finding, Holds, Breaks, Unknown, after_test, after_tests, Effect, Succeeds, Fails, Writes, Equates, Becomes, Faults, effect}
 use Rattle.machine_model.specs.Run.{steps}
 use Rattle.machine_model.specs.Laws.{CallsBounded}
 
@@ -25,10 +25,17 @@ abbrev pub IfGoing : (State → Type 0) → Phase → Type 0
 IfGoing P (Going s) = P s
 IfGoing P (Over e) = Unit {0}
 
--- tests change nothing but that a run may be over
-pub after_tests_keep : (P : State → Type 0) (tests : ℕ) (broken : List ℕ) (next : Phase) → IfGoing P next → IfGoing P (after_tests tests broken next).phase
-after_tests_keep P tests [] next h = h
-after_tests_keep P tests (c ∷ cs) next h = tt
+-- a test changes nothing but that a run may be over
+after_test_keeps : (P : State → Type 0) (stops : Bool) (counts c : ℕ) (found : Finding) (next : Trace) → IfGoing P next.phase → IfGoing P (after_test stops counts c found next).phase
+after_test_keeps P stops counts c Holds next h = h
+after_test_keeps P true counts c Breaks next h = tt
+after_test_keeps P false counts c Breaks next h = h
+after_test_keeps P stops counts c Unknown next h = tt
+
+-- nor do tests
+pub after_tests_keep : (P : State → Type 0) (stops : Bool) (counts : ℕ) (find : ℕ → Finding) (cs : List ℕ) (next : Trace) → IfGoing P next.phase → IfGoing P (after_tests stops counts find cs next).phase
+after_tests_keep P stops counts find [] next h = h
+after_tests_keep P stops counts find (c ∷ cs) next h = after_test_keeps P stops counts c (find c) (after_tests stops counts find cs next) (after_tests_keep P stops counts find cs next h)
 
 module _ (what : Tests) (program : Program) (bound : ℕ) where
   -- the induction

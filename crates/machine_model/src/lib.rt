@@ -6,7 +6,7 @@ ghost use Rattle.prog_data.specs.declared.tables.Status.{Status};
 ghost use Rattle.prog_data.specs.declared.programs.Program.{Program};
 ghost use Rattle.machine_model.specs.State.{State};
 ghost use Rattle.machine_model.specs.Tests.{Tests};
-ghost use Rattle.machine_model.specs.Laws.{OneRun, Ends, Erases, ErasesInstrumented, Drops, Suffices, Simulates, CallsBounded};
+ghost use Rattle.machine_model.specs.Laws.{OneRun, Ends, Erases, ToldErases, ErasesInstrumented, Drops, Suffices, Simulates, CallsBounded};
 
 /// A run has one list of events, one number of tests and one ending.
 pub fn one_run_law()
@@ -26,6 +26,11 @@ pub fn calls_bounded_law()
 /// Until a condition is broken, the run is the one of the program without conditions.
 pub fn erasure_law()
     ensures { (program : Program) → Erases program }
+{}
+
+/// Where each broken condition is told and the run goes on, it is, without these events, the run of the program without conditions.
+pub fn told_erasure_law()
+    ensures { (program : Program) → ToldErases program }
 {}
 
 /// An instrumented program and the program are the same without their conditions.
