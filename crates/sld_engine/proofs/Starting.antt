@@ -1,7 +1,8 @@
 -- The start of a run.
-use Rattle.std.proofs.Common.{◌≡◌, ℕ, Option, Some, subst, ap}
+use Rattle.std.proofs.Common.{◌≡◌, ℕ, Option, Some, Result, Ok, Err, IfOk, subst, ap}
 use Rattle.std.specs.Prelude.{option_map}
 use Rattle.term_core.specs.declared.terms.Term.{Term}
+use Rattle.term_core.specs.declared.memory.NoMemory.{NoMemory}
 use Rattle.prog_data.specs.declared.programs.Program.{Program}
 use Rattle.prog_data.specs.Goals.{called_by}
 use Rattle.machine_model.specs.State.{Going}
@@ -23,3 +24,8 @@ starts program query bound p r calls is = record {
   forth = λ events tests e c. record { pred = p; calls = calls; runs = c };
   back = λ events tests e run. subst (λ q. RunsFrom (every_condition program) program bound (start_of q query) events tests e) (same_found run.pred p (called_by program query) run.calls calls) run.runs;
 }
+
+-- the same of a run that may be refused memory
+pub started : (program : Program) (query : Term) (bound p : ℕ) (result : Result Run NoMemory) → called_by program query ≡ Some p → IfOk result (λ r. as_phase r.stage ≡ Some (Going (start_of p query))) → IfOk result (Starts program query bound)
+started program query bound p (Ok r) calls is = starts program query bound p r calls is
+started program query bound p (Err e) calls is = tt
