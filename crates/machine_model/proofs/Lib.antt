@@ -4,6 +4,7 @@ pub mod OneRun
 pub mod Invariants
 pub mod Ends
 pub mod BothWays
+pub mod Continuing
 pub mod DropRelation
 pub mod DropSteps
 pub mod DropRuns

@@ -11,7 +11,8 @@ use Rattle.machine_model.specs.Run.{steps, then_trace}
 use Rattle.machine_model.specs.Laws.{OneRun}
 
 module _ (what : Tests) (program : Program) (bound : ℕ) where
-  over_stays : (k : ℕ) (e : Ending) → steps what program bound k (Over e) ≡ quietly (Over e)
+  -- a run that is over stays so
+  pub over_stays : (k : ℕ) (e : Ending) → steps what program bound k (Over e) ≡ quietly (Over e)
   over_stays zero e = refl
   over_stays (suc k) e = refl
 

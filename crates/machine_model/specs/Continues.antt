@@ -4,7 +4,7 @@ use Rattle.prog_data.specs.declared.programs.Program.{Program}
 use Rattle.prog_data.specs.declared.events.Event.{Event}
 use Rattle.prog_data.specs.declared.events.Event.TheVariants.{End}
 use Rattle.prog_data.specs.declared.events.Ending.{Ending}
-use Rattle.machine_model.specs.State.{Phase, Going, Over}
+use Rattle.machine_model.specs.State.{Phase, Going, Over, Trace}
 use Rattle.machine_model.specs.Tests.{Tests}
 use Rattle.machine_model.specs.Run.{RunsFrom}
 
@@ -16,6 +16,10 @@ pub record Left : Type 0 where
 -- a phase before which nothing is left to be told
 abbrev pub at_phase : Phase → Left
 at_phase p = record { untold = []; phase = p }
+
+-- what is left after a step: what it tells is still to be told
+abbrev pub left_after : Trace → Left
+left_after t = record { untold = t.events; phase = t.phase }
 
 module _ (what : Tests) (program : Program) (bound : ℕ) where
   -- after these events, the steps from a phase on give these events, this number of tests and this ending
