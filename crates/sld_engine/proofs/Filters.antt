@@ -62,6 +62,10 @@ no_comp program (c ∷ cs) h = by (is_comp (kind_of program c)) h (no_comp progr
     by true e rest = cc
     by false e rest = rest e
 
+-- a trace behind a test that counts so much
+abbrev counted : ℕ → Trace → Trace
+counted n t = record t { tests = n + t.tests }
+
 module _ (holds : ℕ → Bool) (counts : ℕ) (next : Trace) where
   -- no condition is broken
   pub none_breaks : (cs : List ℕ) → find (λ c. not (holds c)) cs ≡ None → (made : ℕ) × (after_tests true counts (λ c. finding (holds c)) cs next ≡ record { events = next.events; tests = made; phase = next.phase })
@@ -71,7 +75,7 @@ module _ (holds : ℕ → Bool) (counts : ℕ) (next : Trace) where
       by : (b : Bool) → cond (not b) (Some x) (find (λ c. not (holds c)) cs) ≡ None
           → (find (λ c. not (holds c)) cs ≡ None → (made : ℕ) × (after_tests true counts (λ c. finding (holds c)) cs next ≡ record { events = next.events; tests = made; phase = next.phase }))
           → (made : ℕ) × (after_test true counts x (finding b) (after_tests true counts (λ c. finding (holds c)) cs next) ≡ record { events = next.events; tests = made; phase = next.phase })
-      by true e rest = let r = rest e in (counts + r.0, ap (λ t. record t { tests = counts + t.tests }) r.1)
+      by true e rest = let r = rest e in (counts + r.0, ap (counted counts) r.1)
       by false e rest = absurd (let none : ⊥ = cc in none)
 
   -- the first that is broken ends the run
@@ -82,5 +86,5 @@ module _ (holds : ℕ → Bool) (counts : ℕ) (next : Trace) where
       by : (b : Bool) → cond (not b) (Some x) (find (λ c. not (holds c)) cs) ≡ Some c
           → (find (λ c. not (holds c)) cs ≡ Some c → (made : ℕ) × (after_tests true counts (λ c. finding (holds c)) cs next ≡ record { events = []; tests = made; phase = Over (ending.Violated c) }))
           → (made : ℕ) × (after_test true counts x (finding b) (after_tests true counts (λ c. finding (holds c)) cs next) ≡ record { events = []; tests = made; phase = Over (ending.Violated c) })
-      by true e rest = let r = rest e in (counts + r.0, ap (λ t. record t { tests = counts + t.tests }) r.1)
+      by true e rest = let r = rest e in (counts + r.0, ap (counted counts) r.1)
       by false e rest = (counts, let same : x ≡ c = cc in ap (λ y. record { events = []; tests = counts; phase = Over (ending.Violated y) }) same)

@@ -23,7 +23,7 @@ use Rattle.machine_model.specs.Step.{step, goal_step, call_step, call_made, try_
 use Rattle.machine_model.specs.Run.{nowhere}
 use Rattle.sld_engine.specs.Parts.{Alike, Next, clause_frame}
 use Rattle.sld_engine.specs.Built.{is_built, is_built_goal}
-use Rattle.sld_engine.specs.Testing.{is_broken_at_call, is_broken_at_exit, broken_at_call, noted_at_call}
+use Rattle.sld_engine.specs.Testing.{is_broken_at_exit, broken_at_call, noted_at_call}
 use Rattle.sld_engine.proofs.Alikes.{alike_then, alike_step, alike_same, next_answer}
 use Rattle.sld_engine.proofs.Builts.{built_without_exit, pred_conds}
 use Rattle.sld_engine.proofs.Filters.{broken_calls, noted_success, no_comp, none_breaks, first_breaks}
