@@ -2,9 +2,9 @@ use Rattle.std.proofs.Common.{◌≡◌, ◌+◌, ◌*◌, drop, map, length}
 use Rattle.std.specs.List.{list_any}
 use Rattle.term_core.specs.Terms.{depth_of, greatest}
 use Rattle.prog_data.specs.Membership.{leaves_within, admits, admit_each}
-use Rattle.sld_engine.specs.Belonging.{passes}
-use Rattle.sld_engine.proofs.Belonging.{weight}
-use Rattle.sld_engine.proofs.membership.+membership.Given as goal
+use Rattle.prop_check.specs.Belonging.{passes}
+use Rattle.prop_check.proofs.Belonging.{weight}
+use Rattle.prop_check.proofs.membership.+membership.Given as goal
 
 abbrev pub decreases-admits : goal.decreases-admits
 decreases-admits l = 3 * weight (depth_of l.term.now) (length l.grammar.now.rules)

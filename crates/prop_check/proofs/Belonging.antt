@@ -9,7 +9,7 @@ use Rattle.prog_data.specs.declared.grammars.Rule.{Rule}
 use Rattle.prog_data.specs.declared.grammars.Rule.TheVariants.{Basic as BasicRule, Int, Atom, Node, Unit as UnitRule}
 use Rattle.prog_data.specs.declared.grammars.Grammar.{Grammar}
 use Rattle.prog_data.specs.Membership.{rules_of, is_leaf, unit_of, leaves_within, admits, admit_each, leaves}
-use Rattle.sld_engine.specs.Belonging.{passes}
+use Rattle.prop_check.specs.Belonging.{passes}
 
 any_append : {A : Type 0} (p : A → Bool) (xs ys : List A) → list_any p (xs ++ ys) ≡ (list_any p xs || list_any p ys)
 any_append p [] ys = refl

@@ -5,7 +5,7 @@ ghost use Rattle.term_core.specs.Terms.{is_ground};
 ghost use Rattle.prog_data.specs.Membership.{rules_of, leaves_within, admits, admit_each, belongs};
 ghost use Rattle.prog_data.specs.declared.grammars.Grammar.{Grammar as GrammarValue};
 ghost use Rattle.prog_data.specs.declared.grammars.Rule.TheVariants as rules;
-ghost use Rattle.sld_engine.specs.Belonging.{passes};
+ghost use Rattle.prop_check.specs.Belonging.{passes};
 
 use prog_data::{Basic, Grammar, Rule};
 use term_core::Term;
@@ -137,7 +137,7 @@ fn belongs_within(grammar: &Grammar, term: &Term, name: u64, steps: usize) -> bo
 }
 
 /// Whether the term belongs to the name. No variable is bound.
-pub(crate) fn belongs(grammar: &Grammar, term: &Term, name: u64) -> bool
+pub fn belongs(grammar: &Grammar, name: u64, term: &Term) -> bool
     ensures { result ≡ belongs grammar.now term.now name }
 {
     belongs_within(grammar, term, name, grammar.rules.len())

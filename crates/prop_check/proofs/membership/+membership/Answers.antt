@@ -4,9 +4,9 @@ use Rattle.std.proofs.lemmas.List.{length-map}
 use Rattle.term_core.specs.Terms.{depth_of, depth_step, greatest}
 use Rattle.term_core.proofs.TermFolds.{fold_at_node}
 use Rattle.prog_data.specs.Membership.{admits}
-use Rattle.sld_engine.specs.Belonging.{passes}
-use Rattle.sld_engine.proofs.Belonging.{rules_pass, unequal, weight, part_weighs, deepest_weighs, deepest}
-use Rattle.sld_engine.proofs.membership.+membership.Goals as goal
+use Rattle.prop_check.specs.Belonging.{passes}
+use Rattle.prop_check.proofs.Belonging.{rules_pass, unequal, weight, part_weighs, deepest_weighs, deepest}
+use Rattle.prop_check.proofs.membership.+membership.Goals as goal
 
 pub admits-belong_each-requires : goal.admits-belong_each-requires
 admits-belong_each-requires t c =
