@@ -7,8 +7,8 @@ use Rattle.machine_model.specs.State.{State, Phase, Going, Over, Trace}
 use Rattle.machine_model.specs.Tests.{Tests}
 use Rattle.machine_model.specs.Step.{step, quietly}
 use Rattle.machine_model.specs.Run.{steps, then_trace, RunsFrom}
-use Rattle.machine_model.specs.Continues.{Left, at_phase, left_after, ContinuesAfter, Continues, Leads, EndsBy}
-use Rattle.machine_model.specs.Laws.{Ends, OneRun}
+use Rattle.machine_model.specs.Continues.{Left, at_phase, left_after, ContinuesAfter, Continues, Leads}
+use Rattle.machine_model.specs.Laws.{LeftLaws}
 use Rattle.machine_model.proofs.OneRun.{over_stays, one_run}
 use Rattle.machine_model.proofs.Ends.{ends}
 
@@ -115,3 +115,6 @@ module _ (what : Tests) (program : Program) (bound : ℕ) where
       same (event ∷ untold) p events events' n n' e e' a b =
           let more = same untold p a.0 b.0 n n' e e' a.2 b.2 in
           (a.1 ∙ ap (λ es. event ∷ es) more.0 ∙ sym b.1, more.1, more.2)
+
+  pub left_laws : LeftLaws what program bound
+  left_laws = record { steps = step_leads; tells = tell; goes_on = then_leads; all = all_left; one = one_left }

@@ -1,5 +1,5 @@
 -- The laws that functions of this crate carry.
-use Rattle.std.specs.Prelude.{◌≡◌, ◌≤◌, ◌↔◌, ℕ, Bool, List, ◌++◌, filter, not, Some, true, false}
+use Rattle.std.specs.Prelude.{◌≡◌, ◌≤◌, ◌↔◌, ℕ, ◌+◌, Bool, List, [], ◌∷◌, ◌++◌, filter, not, Some, true, false}
 use Rattle.term_core.specs.declared.terms.Term.{Term, out-Term}
 use Rattle.prog_data.specs.declared.events.Event.{Event}
 use Rattle.prog_data.specs.declared.events.Event.TheVariants as event
@@ -7,8 +7,10 @@ use Rattle.prog_data.specs.declared.events.Ending.{Ending}
 use Rattle.prog_data.specs.declared.events.Ending.TheVariants as ending
 use Rattle.prog_data.specs.declared.tables.Status.{Status}
 use Rattle.prog_data.specs.declared.programs.Program.{Program}
-use Rattle.machine_model.specs.State.{State}
+use Rattle.machine_model.specs.State.{State, Phase, Going}
 use Rattle.machine_model.specs.Tests.{Tests}
+use Rattle.machine_model.specs.Step.{step}
+use Rattle.machine_model.specs.Continues.{Left, at_phase, left_after, Continues, Leads}
 use Rattle.machine_model.specs.Run.{RunsFrom, Reaches, Run, KeptRun, CheckRun, RunAll}
 use Rattle.machine_model.specs.Erasure.{erase, HasNoExit}
 use Rattle.machine_model.specs.Points.{Sound}
@@ -84,3 +86,18 @@ without_broken es = filter (λ e. not (is_broken e)) es
 abbrev pub ToldErases : Program → Type 0
 ToldErases program = HasNoExit program → (query : Term) (bound : ℕ) (es : List Event) (e : Ending) →
     RunAll program query bound es e → Run (erase program) query bound (without_broken es) e
+
+-- what is left of a run: how it is told, step by step, and that it has one end
+pub record LeftLaws (what : Tests) (program : Program) (bound : ℕ) : Type 0 where
+  -- a step leads to what is left after it, with the tests that it makes
+  pub steps : (s : State) → Leads what program bound (at_phase (Going s)) [] (step what program bound s).tests (left_after (step what program bound s))
+  -- the first event that is still to be told is told next
+  pub tells : (first : Event) (untold : List Event) (p : Phase) → Leads what program bound (record { untold = first ∷ untold; phase = p }) (first ∷ []) 0 (record { untold = untold; phase = p })
+  -- what leads to what leads on, leads on
+  pub goes_on : (old mid new : Left) (events more : List Event) (made further : ℕ) →
+      Leads what program bound old events made mid → Leads what program bound mid more further new → Leads what program bound old (events ++ more) (made + further) new
+  -- some events, a number of tests and an ending are left
+  pub all : (left : Left) → (events : List Event) × (tests : ℕ) × (e : Ending) × Continues what program bound left events tests e
+  -- and only these
+  pub one : (left : Left) (events events' : List Event) (n n' : ℕ) (e e' : Ending) →
+      Continues what program bound left events n e → Continues what program bound left events' n' e' → (events ≡ events') × (n ≡ n') × (e ≡ e')

@@ -6,7 +6,7 @@ ghost use Rattle.prog_data.specs.declared.tables.Status.{Status};
 ghost use Rattle.prog_data.specs.declared.programs.Program.{Program};
 ghost use Rattle.machine_model.specs.State.{State};
 ghost use Rattle.machine_model.specs.Tests.{Tests};
-ghost use Rattle.machine_model.specs.Laws.{OneRun, Ends, Erases, ToldErases, ErasesInstrumented, Drops, Suffices, Simulates, CallsBounded};
+ghost use Rattle.machine_model.specs.Laws.{OneRun, Ends, Erases, ToldErases, ErasesInstrumented, Drops, Suffices, Simulates, CallsBounded, LeftLaws};
 
 /// A run has one list of events, one number of tests and one ending.
 pub fn one_run_law()
@@ -21,6 +21,11 @@ pub fn ends_law()
 /// The calls made never pass the bound.
 pub fn calls_bounded_law()
     ensures { (what : Tests) (program : Program) (bound : ℕ) → CallsBounded what program bound }
+{}
+
+/// What is left of a run is told step by step, and has one end.
+pub fn left_law()
+    ensures { (what : Tests) (program : Program) (bound : ℕ) → LeftLaws what program bound }
 {}
 
 /// Until a condition is broken, the run is the one of the program without conditions.
