@@ -25,10 +25,6 @@ abbrev pub grown : Option (List ℕ) → List ℕ → Option (List ℕ)
 grown None piece = None
 grown (Some text) piece = Some (text ++ piece)
 
--- some prefix of the text was written and nothing else
-abbrev pub GrewByPrefix : Option (List ℕ) → Option (List ℕ) → List ℕ → Type 0
-GrewByPrefix old new text = (count : ℕ) × (new ≡ grown old (take count text))
-
 -- a read that was made: the name and the most bytes that were asked for, and the answer
 pub record FileRead : Type 0 where
   pub name : List ℕ
@@ -44,6 +40,6 @@ abbrev pub answer_of : {V : Type 0} → (V → List ℕ) → Result (Option V) F
 answer_of items (Ok given) = Ok (option_map items given)
 answer_of items (Err fault) = Err fault
 
--- a prefix of the text was taken and nothing else
-abbrev pub TookPrefix : List ℕ → List ℕ → List ℕ → Type 0
-TookPrefix old new text = (count : ℕ) × (new ≡ old ++ take count text)
+-- a prefix of the text was taken and nothing else, and what the sink holds grew by it, where it is told
+abbrev pub TookFront : List ℕ → List ℕ → Option (List ℕ) → Option (List ℕ) → List ℕ → Type 0
+TookFront taken taken' written written' text = (count : ℕ) × (taken' ≡ taken ++ take count text) × (written' ≡ grown written (take count text))

@@ -1,6 +1,6 @@
 // Where a program writes.
 ghost use Rattle.std.specs.Prelude.{◌≡◌, ℕ, Bool, ◌<◌, ◌≤◌, List, ◌++◌, length, take, Option, IfOk, OnOk, OnErr};
-ghost use Rattle.byte_io.specs.Outside.{HasCause, grown, GrewByPrefix, TookPrefix, StaysSteady};
+ghost use Rattle.byte_io.specs.Outside.{HasCause, grown, TookFront, StaysSteady};
 
 /// Why a piece was not written.
 #[derive(Clone, Copy, Drop, Debug, PartialEq, Eq)]
@@ -44,9 +44,8 @@ pub trait Sink {
 /// call that failed, and a prefix of the text was written before it.
 pub fn write_all<S: Sink>(out: &mut S, text: &[u8]) -> Result<(), SinkFault>
     ensures taken { OnOk result (S.taken out.new ≡ S.taken out.old ++ text.now) }
-    ensures taken_front { OnErr result (TookPrefix (S.taken out.old) (S.taken out.new) text.now) }
     ensures all { OnOk result (S.written out.new ≡ grown (S.written out.old) text.now) }
-    ensures front { OnErr result (GrewByPrefix (S.written out.old) (S.written out.new) text.now) }
+    ensures front { OnErr result (TookFront (S.taken out.old) (S.taken out.new) (S.written out.old) (S.written out.new) text.now) }
     ensures cause { HasCause SinkFault.Failed (S.faults out.old) (S.faults out.new) result }
     ensures steady { StaysSteady (S.steady out.old) (S.steady out.new) (S.faults out.old) (S.faults out.new) }
 {

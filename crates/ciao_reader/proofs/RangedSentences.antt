@@ -1,12 +1,11 @@
 -- The sentences of a text, and a goal, are in range of the names after it.
-use Rattle.std.proofs.Common.{arith, ◌≡◌, ◌≤◌, ◌<◌, ◌⊎◌, ℕ, zero, suc, ◌+◌, List, [], ◌∷◌, ◌++◌, length, inl, inr, refl, sym, ap, ◌∙◌, subst}
+use Rattle.std.proofs.Common.{arith, ◌≡◌, ◌≤◌, ◌<◌, ◌⊎◌, ℕ, zero, suc, ◌+◌, true, List, [], ◌∷◌, ◌++◌, length, inl, inr, refl, sym, ap, ◌∙◌, subst}
 use Rattle.std.proofs.lemmas.List.{length-append}
 use Rattle.std.specs.List.{AllByRecursion}
 use Rattle.term_core.specs.declared.fixed.TheConstants as fixed
 use Rattle.term_core.specs.Names.{fixed_names}
 use Rattle.term_core.specs.Lists.{IsPrefix}
 use Rattle.term_core.specs.Terms.{vars}
-use Rattle.term_core.specs.Standard.{standard}
 use Rattle.term_core.specs.Ranges.{has_names, IsInRange, RangesStay}
 use Rattle.term_core.specs.declared.operators.Operators.{Operators}
 use Rattle.ciao_tokens.specs.Tokens.{HasTokens}
@@ -42,11 +41,11 @@ module _ (stay : RangesStay) (names : List (List ℕ)) (enough : fixed.BAR < len
       let parts = all_parts (λ t. IsNamedBelow (length names) t.kind) ts (splits.end ∷ rest) (subst (AreNamedBelow (length names)) splits.whole named) in
       (parts.0, parts.1.1)
 
-  sentences_ranged : (left : List Token) (last ops : Operators) (tokens : List Token) (ss : List Sentence) → AreNamedBelow (length names) tokens → ReadsTo names left last ops tokens ss → AllByRecursion (IsSentenceInRange (length names)) ss
-  sentences_ranged left last ops tokens [] named reads = tt
-  sentences_ranged left last ops tokens (s ∷ ss) named (next after ts rest s splits is table reads) =
+  sentences_ranged : {left : List Token} {last ops : Operators} {tokens : List Token} {ss : List Sentence} → ReadsTo names left last ops tokens ss → AreNamedBelow (length names) tokens → AllByRecursion (IsSentenceInRange (length names)) ss
+  sentences_ranged (none o t) named = tt
+  sentences_ranged {ops = ops} {tokens = tokens} (next after ts rest s splits is table reads) named =
       let parts = split_named tokens ts rest splits named in
-      (sentence_ranged ops ts s parts.0 is, sentences_ranged left last after rest ss parts.1 reads)
+      (sentence_ranged ops ts s parts.0 is, sentences_ranged reads parts.1)
 
   goal_ranged : (ops : Operators) (tokens : List Token) (s : Sentence) → AreNamedBelow (length names) tokens → IsGoal names ops tokens s → IsSentenceInRange (length names) s
   goal_ranged ops tokens s named goal = sentence_ranged ops goal.inner s (by goal.alone) goal.is
@@ -66,7 +65,7 @@ module _ (stay : RangesStay) (tokens_named : TokensAreNamed) where
   pub sentences_in_range : SentencesAreInRange
   sentences_in_range bytes before after source fixed_first has =
       let tokens = tokens_named bytes before after has.tokens has.has in
-      sentences_ranged stay after (enough_names before after fixed_first tokens.0) [] source.ops standard has.tokens source.sentences tokens.1 has.reads
+      sentences_ranged stay after (enough_names before after fixed_first tokens.0) has.reads tokens.1
 
   pub goals_in_range : GoalsAreInRange
   goals_in_range ops bytes before after goal fixed_first has =

@@ -92,8 +92,8 @@ module _ (n : ℕ) (enough : fixed.BAR < n) where
 
   node_named : (f : ℕ) (ts : List Term) → f < n → 1 ≤ length ts → length ts ≤ 255 → AllNamed ts → has_names n (Node f ts) ≡ true
   node_named f ts lt some few named =
-      let same : length (map (has_names n) ts) ≡ length ts = length-map (has_names n) ts in
-      fold-Node Bool (has_names_step n) f ts ∙ both (nat_lt f n) _ (lt_true f lt) (both _ _ (both _ _ (le_true 1 _ (omega (arith, same, some))) (le_true _ 255 (omega (arith, same, few)))) named)
+      let same : length (map (has_names n) ts) ≡ length ts = length-map ts (has_names n) in
+      fold-Node Bool (has_names_step n) f ts ∙ both (nat_lt f n) _ (lt_true f lt) (both _ _ (both _ _ (le_true 1 (length (map (has_names n) ts)) (omega (arith, same, some))) (le_true (length (map (has_names n) ts)) 255 (omega (arith, same, few)))) named)
 
   pair_named : (t u : Term) → has_names n t ≡ true → has_names n u ≡ true → AllNamed (t ∷ u ∷ [])
   pair_named t u e f = both (has_names n t) _ e (both (has_names n u) true f refl)

@@ -5,6 +5,9 @@ use std::test::Fail;
 
 const EITHER: &str = ":- module(c,[p/1]).\n:- pred p(X) : int(X).\n:- pred p(X) : atm(X).\np(_).\n";
 
+const OUTCOME: &str =
+    ":- module(c,[p/1]).\n:- pred p(X) : int(X).\n:- pred p(X) : atm(X) => list(X).\np(_).\n";
+
 const LISTS: &str = ":- module(c,[p/1]).\n:- pred p(X) : list(X).\np(_).\n";
 
 const SECOND: &str = ":- module(c,[p/1]).\n:- pred p(X) => int(X).\np(1).\np(a).\n";
@@ -28,7 +31,7 @@ const ORDER: &str =
 const COUNTED: &str =
     ":- module(c,[n/2]).\n:- pred n(X,Y) : list(X) => list(Y).\nn([],[]).\nn([X|Xs],[X|Ys]) :- n(Xs,Ys).\n";
 
-const CASES: [Case; 38] = [
+const CASES: [Case; 42] = [
     // two assertions of one predicate, of which one has to hold at a call
     Case {
         text: EITHER,
@@ -65,6 +68,35 @@ const CASES: [Case; 38] = [
         steps: "0",
         written: "end: unknown, step bound\n",
         status: 5,
+    },
+    // one has to hold at a call, and the second of them has a postcondition
+    Case {
+        text: OUTCOME,
+        query: "p(f(a))",
+        steps: "1000",
+        written: "end: violated c.pl:2 calls p/1\n",
+        status: 1,
+    },
+    Case {
+        text: OUTCOME,
+        query: "p(b)",
+        steps: "1000",
+        written: "end: violated c.pl:3 success p/1\n",
+        status: 1,
+    },
+    Case {
+        text: OUTCOME,
+        query: "p([])",
+        steps: "1000",
+        written: "answer: p([])\nend: no more answers\n",
+        status: 0,
+    },
+    Case {
+        text: OUTCOME,
+        query: "p(7)",
+        steps: "1000",
+        written: "answer: p(7)\nend: no more answers\n",
+        status: 0,
     },
     // a list that is open, one that is improper, and lists with unbound elements
     Case {

@@ -1,6 +1,5 @@
 -- The tokens of a text are named by the names after it.
 use Rattle.std.proofs.Common.{arith, ◌≡◌, ◌<◌, ℕ, zero, suc, ◌+◌, Bool, true, false, not, cond, List, [], ◌∷◌, ◌++◌, length, drop, refl, sym, subst, true≢false}
-use Rattle.std.proofs.lemmas.Bool.{or_left, or_right}
 use Rattle.std.specs.Prelude.{bytes_eq, if◌then◌else◌, ◌||◌}
 use Rattle.std.specs.List.{list_any, position_or_len, AllByRecursion}
 use Rattle.term_core.specs.Names.{place_of, with_text, with_texts}
@@ -27,7 +26,7 @@ any_in_front p [] more any = absurd (true≢false (sym any))
 any_in_front p (x ∷ xs) more any = by (p x) any (any_in_front p xs more)
   where
     by : (b : Bool) → (b || list_any p xs) ≡ true → (list_any p xs ≡ true → list_any p (xs ++ more) ≡ true) → (b || list_any p (xs ++ more)) ≡ true
-    by true any rest = or_left _ _ refl
+    by true any rest = refl
     by false any rest = rest any
 
 -- a word that is added has a place among the names, however many come behind it

@@ -2,8 +2,8 @@
 use Rattle.std.proofs.Common.{◌≡◌, ◌⊎◌, inl, inr, ℕ, ◌<◌, List, [], take, refl, ◌∙◌, sym, ap, subst, Option, Some, None, IfSome, codes, arith, option_map, lit<}
 use Rattle.std.proofs.lemmas.Option.{none-some}
 use Rattle.prog_data.specs.declared.programs.Program.{Program}
-use Rattle.machine_model.specs.Reading.{Reading}
-use Rattle.machine_model.specs.Laws.{Text, OneRun, Ends}
+use Rattle.machine_model.specs.Tests.{Tests}
+use Rattle.machine_model.specs.Laws.{OneRun, Ends}
 use Rattle.byte_io.specs.Outside.{Held, grown}
 use Rattle.ciao_top.specs.Words.{Word, RunWords, AcceptedWords}
 use Rattle.ciao_top.specs.Lines.{fault_line, file_fault, read_fault}
@@ -199,7 +199,7 @@ module _ (words : List Word) (command : RunWords) (is : AcceptedWords words ≡ 
 
 -- the laws
 
-module _ (one_run : (text : Text) (r : Reading) (program : Program) (bound : ℕ) → OneRun text r program bound) where
+module _ (one_run : (what : Tests) (program : Program) (bound : ℕ) → OneRun what program bound) where
   run_one : (held : Held) (c : RunWords) (t t' : Word) (s s' : ℕ) → RunDefined held c t s → RunDefined held c t' s' → (t ≡ t') × (s ≡ s')
   run_one held c t t' s s' (Missing m l r) (Missing m' l' r') = (l ∙ sym l', r ∙ sym r')
   run_one held c t t' s s' (Missing m l r) (There b some f) = absurd (none-some b (sym m ∙ some))
@@ -215,7 +215,7 @@ module _ (one_run : (text : Text) (r : Reading) (program : Program) (bound : ℕ
   one_answer held words t t' s s' (Runs c is d) (Runs c' is' d') =
       run_one held c t t' s s' d (subst (λ x. RunDefined held x t' s') (same_some c' c (AcceptedWords words) is' is) d')
 
-module _ (ends : (text : Text) (r : Reading) (program : Program) → Ends text r program) where
+module _ (ends : (what : Tests) (program : Program) → Ends what program) where
   run_some : (held : Held) (c : RunWords) (file : Option Word) → held c.file ≡ file → ((text : Word) (status : ℕ) → RunDefined held c text status → ⊥) → ⊥
   run_some held c None none never = never (file_fault c.file 0 (codes "NoFile")) 3 (Missing none refl refl)
   run_some held c (Some bytes) some never = file_some ends bytes c (λ t s a. never t s (There bytes some a))

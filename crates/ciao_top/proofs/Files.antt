@@ -6,7 +6,6 @@ use Rattle.std.proofs.lemmas.List.{take_all, length-take}
 use Rattle.term_core.specs.declared.terms.Term.{Term}
 use Rattle.term_core.specs.declared.operators.Operators.{Operators}
 use Rattle.term_core.specs.Standard.{IsMade}
-use Rattle.term_core.specs.Printing.{Printed}
 use Rattle.ciao_reader.specs.declared.sentences.ReadFault.{ReadFault}
 use Rattle.ciao_reader.specs.Faults.{IsUnread}
 use Rattle.ciao_reader.proofs.OneText.{one_fault}
@@ -14,9 +13,9 @@ use Rattle.prog_data.specs.declared.programs.Program.{Program}
 use Rattle.prog_data.specs.declared.events.Event.{Event}
 use Rattle.prog_data.specs.declared.events.Ending.{Ending}
 use Rattle.prog_data.specs.Goals.{called_by}
-use Rattle.machine_model.specs.Reading.{Reading, every_condition}
+use Rattle.machine_model.specs.Tests.{Tests, every_condition}
 use Rattle.machine_model.specs.Run.{Run, RunsFrom, start_of}
-use Rattle.machine_model.specs.Laws.{Text, OneRun, Ends}
+use Rattle.machine_model.specs.Laws.{OneRun, Ends}
 use Rattle.ciao_top.specs.Words.{Word, RunWords, base_of}
 use Rattle.ciao_top.specs.declared.units.sentences.Unit.{Unit}
 use Rattle.ciao_top.specs.declared.units.sentences.LinkResult.{LinkResult}
@@ -197,13 +196,13 @@ answers_of_front n bytes command lt text status (Built small m is a) =
 
 -- one answer
 
-module _ (one_run : (text : Text) (r : Reading) (program : Program) (bound : ℕ) → OneRun text r program bound) where
-  runs_one : (text : Text) (program : Program) (query : Term) (bound : ℕ) (es es' : List Event) (e e' : Ending)
-      → Run text program query bound es e → Run text program query bound es' e' → (es ≡ es') × (e ≡ e')
-  runs_one text program query bound es es' e e' a b =
-      let moved : RunsFrom text (every_condition program) program bound (start_of a.1.pred query) es' b.0 e' =
-      subst (λ p. RunsFrom text (every_condition program) program bound (start_of p query) es' b.0 e') (same_some b.1.pred a.1.pred (called_by program query) b.1.calls a.1.calls) b.1.runs in
-      let same = one_run text (every_condition program) program bound (start_of a.1.pred query) es es' a.0 b.0 e e' a.1.runs moved in
+module _ (one_run : (what : Tests) (program : Program) (bound : ℕ) → OneRun what program bound) where
+  runs_one : (program : Program) (query : Term) (bound : ℕ) (es es' : List Event) (e e' : Ending)
+      → Run program query bound es e → Run program query bound es' e' → (es ≡ es') × (e ≡ e')
+  runs_one program query bound es es' e e' a b =
+      let moved : RunsFrom (every_condition program) program bound (start_of a.1.pred query) es' b.0 e' =
+      subst (λ p. RunsFrom (every_condition program) program bound (start_of p query) es' b.0 e') (same_some b.1.pred a.1.pred (called_by program query) b.1.calls a.1.calls) b.1.runs in
+      let same = one_run (every_condition program) program bound (start_of a.1.pred query) es es' a.0 b.0 e e' a.1.runs moved in
       (same.0, same.2)
 
   call_one : (program : Program) (query : Term) (bound : ℕ) (t t' : Word) (s s' : ℕ) → CallAnswers program query bound t s → CallAnswers program query bound t' s' → (t ≡ t') × (s ≡ s')
@@ -211,7 +210,7 @@ module _ (one_run : (text : Text) (r : Reading) (program : Program) (bound : ℕ
   call_one program query bound t t' s s' (inner.NotExported n l r) (inner.Ran es e run l' r') = absurd (none-some run.1.pred (sym n ∙ run.1.calls))
   call_one program query bound t t' s s' (inner.Ran es e run l r) (inner.NotExported n l' r') = absurd (none-some run.1.pred (sym n ∙ run.1.calls))
   call_one program query bound t t' s s' (inner.Ran es e run l r) (inner.Ran es' e' run' l' r') =
-      let same : (es ≡ es') × (e ≡ e') = runs_one (λ quoted. Printed program.names program.ops quoted) program query bound es es' e e' run run' in
+      let same : (es ≡ es') × (e ≡ e') = runs_one program query bound es es' e e' run run' in
       (l ∙ ap (λ x. RunText program x e) same.0 ∙ ap (RunText program es') same.1 ∙ sym l', r ∙ ap ending_status same.1 ∙ sym r')
 
   query_one : (program : Program) (ops : Operators) → IsMade ops → (command : RunWords) (t t' : Word) (s s' : ℕ) → QueryAnswers program ops command t s → QueryAnswers program ops command t' s' → (t ≡ t') × (s ≡ s')
@@ -241,11 +240,11 @@ module _ (one_run : (text : Text) (r : Reading) (program : Program) (bound : ℕ
 
 -- some answer
 
-module _ (ends : (text : Text) (r : Reading) (program : Program) → Ends text r program) where
+module _ (ends : (what : Tests) (program : Program) → Ends what program) where
   call_some : (program : Program) (query : Term) (bound : ℕ) (called : Option ℕ) → called_by program query ≡ called → ((text : Word) (status : ℕ) → CallAnswers program query bound text status → ⊥) → ⊥
   call_some program query bound None none never = never (fault_line (codes "query not exported")) 4 (inner.NotExported none refl refl)
   call_some program query bound (Some p) calls never =
-      let found = ends (λ quoted. Printed program.names program.ops quoted) (every_condition program) program bound (start_of p query) in
+      let found = ends (every_condition program) program bound (start_of p query) in
       never (RunText program found.0 found.2) (ending_status found.2)
       (inner.Ran found.0 found.2 (found.1, record { pred = p; calls = calls; runs = found.3 }) refl refl)
 

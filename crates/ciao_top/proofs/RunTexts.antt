@@ -1,21 +1,18 @@
 -- What a run tells, one event at a time.
-use Rattle.std.proofs.Common.{◌≡◌, ℕ, List, [], ◌∷◌, ◌++◌, take, refl, ◌∙◌, sym, ap, subst, Option, Some, None, flat_map, MatchOption, IfNone}
+use Rattle.std.proofs.Common.{◌≡◌, ℕ, ◌+◌, List, [], ◌∷◌, ◌++◌, take, refl, ◌∙◌, sym, ap, subst, Option, Some, None, flat_map, MatchOption, IfNone, IsSome, is_some, true≢false}
 use Rattle.std.proofs.lemmas.List.{append_assoc}
 use Rattle.std.proofs.lemmas.Option.{none-some}
 use Rattle.byte_io.specs.Outside.{grown, GrewByPrefix}
 use Rattle.term_core.specs.declared.terms.Term.{Term}
-use Rattle.term_core.specs.Printing.{Printed}
 use Rattle.prog_data.specs.declared.programs.Program.{Program}
 use Rattle.prog_data.specs.declared.events.Event.{Event}
-use Rattle.prog_data.specs.declared.events.Event.TheVariants.{Out, Answer, End}
+use Rattle.prog_data.specs.declared.events.Event.TheVariants.{Out, Answer, End, Broken}
 use Rattle.prog_data.specs.declared.events.Ending.{Ending}
 use Rattle.prog_data.specs.Goals.{called_by}
-use Rattle.machine_model.specs.State.{Phase, Going}
-use Rattle.machine_model.specs.Reading.{every_condition}
-use Rattle.machine_model.specs.Run.{RunsFrom, start_of}
+use Rattle.machine_model.specs.Tests.{every_condition}
+use Rattle.machine_model.specs.Continues.{Left, Continues, Leads, EndsBy, IsNext}
 use Rattle.sld_engine.specs.declared.run.Run as engine
-use Rattle.sld_engine.specs.Continues.{Continues, IsNext, Tells}
-use Rattle.sld_engine.specs.Runs.{phase_of, program_of, bound_of, HasTold}
+use Rattle.sld_engine.specs.Runs.{left_of, program_of, bound_of, Starts, HasTold}
 use Rattle.ciao_top.specs.Words.{Word}
 use Rattle.ciao_top.specs.RunText.{RunText, event_text, ending_text, ending_status}
 use Rattle.ciao_top.specs.Answers.{IsPrefix}
@@ -27,103 +24,121 @@ pub same_some : {A : Type 0} (a b : A) (o : Option A) → o ≡ Some a → o ≡
 same_some a b o x y = cc
 
 module _ (program : Program) (bound : ℕ) where
-  -- what comes from a phase on, with the text of this program's terms
-  abbrev pub Comes_from : Phase → List Event → Ending → Type 0
-  Comes_from = Continues (λ quoted. Printed program.names program.ops quoted) (every_condition program) program bound
+  -- what comes of what is left
+  abbrev pub Comes_of : Left → List Event → ℕ → Ending → Type 0
+  Comes_of = Continues (every_condition program) program bound
 
-  -- the next event of a run that is at a phase
-  pub record IsNextAt (old : Option Phase) (event : Event) (new : Option Phase) : Type 0 where
-    pub before : Phase
-    pub after : Phase
+  -- the next event of a run of which this is left
+  pub record IsNextAt (old : Option Left) (event : Event) (new : Option Left) : Type 0 where
+    pub before : Left
+    pub after : Left
     pub was : old ≡ Some before
     pub is : new ≡ Some after
-    pub next : IsNext (λ quoted. Printed program.names program.ops quoted) (every_condition program) program bound before event after
+    pub made : ℕ
+    pub next : IsNext (every_condition program) program bound before event made after
 
   -- an event and then what comes behind it
-  tells_written : (o n : Option Phase) (before after : Phase) (event : Event) (old new : Option Word) → o ≡ Some before → n ≡ Some after
-      → Tells (λ quoted. Printed program.names program.ops quoted) (every_condition program) program bound before event after
+  tells_written : (o n : Option Left) (before after : Left) (event : Event) (made : ℕ) (old new : Option Word) → o ≡ Some before → n ≡ Some after
+      → Leads (every_condition program) program bound before (event ∷ []) made after
       → new ≡ grown old (event_text program event) → HasWritten (RunTells program bound o) (RunTells program bound n) old new
-  tells_written o n before after event old new was is tells grew = record {
+  tells_written o n before after event made old new was is tells grew = record {
     piece = event_text program event;
     grew = grew;
     forth = λ t s x. record {
       now = before;
       is_now = was;
       events = event ∷ x.events;
+      tests = made + x.tests;
       ending = x.ending;
-      continues = tells.forth x.events x.ending (subst (λ p. Comes_from p x.events x.ending) (same_some x.now after n x.is_now is) x.continues);
+      continues = tells.forth x.events x.tests x.ending (subst (λ p. Comes_of p x.events x.tests x.ending) (same_some x.now after n x.is_now is) x.continues);
       text_is = ap (λ y. event_text program event ++ y) x.text_is ∙ sym (append_assoc (event_text program event) (flat_map (event_text program) x.events) (ending_text program x.ending));
       status_is = x.status_is;
     };
     back = λ t s x.
-        let y = tells.back x.events x.ending (subst (λ p. Comes_from p x.events x.ending) (same_some x.now before o x.is_now was) x.continues) in (
+        let y = tells.back x.events x.tests x.ending (subst (λ p. Comes_of p x.events x.tests x.ending) (same_some x.now before o x.is_now was) x.continues) in (
           RunText program y.0 x.ending,
-          x.text_is ∙ ap (λ es. RunText program es x.ending) y.1 ∙ append_assoc (event_text program event) (flat_map (event_text program) y.0) (ending_text program x.ending),
-          record { now = after; is_now = is; events = y.0; ending = x.ending; continues = y.2; text_is = refl; status_is = x.status_is },
+          x.text_is ∙ ap (λ es. RunText program es x.ending) y.2 ∙ append_assoc (event_text program event) (flat_map (event_text program) y.0) (ending_text program x.ending),
+          record { now = after; is_now = is; events = y.0; tests = y.1; ending = x.ending; continues = y.4; text_is = refl; status_is = x.status_is },
         );
   }
 
   -- the run goes on after an event that was written
-  pub goes_on : (o n : Option Phase) (event : Event) (old new : Option Word) → IsNextAt o event n → None ≡ event_status event
+  pub goes_on : (o n : Option Left) (event : Event) (old new : Option Word) → IsNextAt o event n → None ≡ event_status event
       → new ≡ grown old (event_text program event) → HasWritten (RunTells program bound o) (RunTells program bound n) old new
-  goes_on o n (Out text) old new next none grew = tells_written o n next.before next.after (Out text) old new next.was next.is next.next grew
-  goes_on o n (Answer query) old new next none grew = tells_written o n next.before next.after (Answer query) old new next.was next.is next.next grew
+  goes_on o n (Out text) old new next none grew = tells_written o n next.before next.after (Out text) next.made old new next.was next.is next.next grew
+  goes_on o n (Answer query) old new next none grew = tells_written o n next.before next.after (Answer query) next.made old new next.was next.is next.next grew
+  goes_on o n (Broken c) old new next none grew = tells_written o n next.before next.after (Broken c) next.made old new next.was next.is next.next grew
   goes_on o n (End e) old new next none grew = absurd (none-some (ending_status e) none)
 
+  -- what has ended gives its ending
+  ended_tells : (before after : Left) (made : ℕ) (e : Ending) → EndsBy (every_condition program) program bound before made e after → Comes_of before [] (made + 0) e
+  ended_tells before after made e ends = ends.leads.forth [] 0 e (subst (λ l. Comes_of l [] 0 e) (sym ends.over) (refl, refl, refl))
+
   -- the run ends with an ending that was written
-  pub has_ended : (o n : Option Phase) (event : Event) (status : ℕ) (writing : Type 0) (old new : Option Word) → IsNextAt o event n → Some status ≡ event_status event
+  pub has_ended : (o n : Option Left) (event : Event) (status : ℕ) (writing : Type 0) (old new : Option Word) → IsNextAt o event n → Some status ≡ event_status event
       → new ≡ grown old (event_text program event) → Comes (RunTells program bound o) writing old new status
   has_ended o n (Out text) status writing old new next is grew = absurd (none-some status (sym is))
   has_ended o n (Answer query) status writing old new next is grew = absurd (none-some status (sym is))
+  has_ended o n (Broken c) status writing old new next is grew = absurd (none-some status (sym is))
   has_ended o n (End e) status writing old new next is grew = Whole (ending_text program e) (record {
     now = next.before;
     is_now = next.was;
     events = [];
+    tests = next.made + 0;
     ending = e;
-    continues = next.next.forth;
+    continues = ended_tells next.before next.after next.made e next.next;
     text_is = refl;
     status_is = same_some status (ending_status e) (Some status) refl is;
   }) grew
 
-  tells_begun : (o : Option Phase) (before after : Phase) (event : Event) (old new : Option Word) → o ≡ Some before
-      → Tells (λ quoted. Printed program.names program.ops quoted) (every_condition program) program bound before event after
+  tells_begun : (o : Option Left) (before after : Left) (event : Event) (made : ℕ) (old new : Option Word) → o ≡ Some before
+      → Leads (every_condition program) program bound before (event ∷ []) made after
       → GrewByPrefix old new (event_text program event) → HasBegun (RunTells program bound o) old new
-  tells_begun o before after event old new was tells g = record {
+  tells_begun o before after event made old new was tells g = record {
     piece = take g.0 (event_text program event);
     begins = λ t s x.
-        let y = tells.back x.events x.ending (subst (λ p. Comes_from p x.events x.ending) (same_some x.now before o x.is_now was) x.continues) in
+        let y = tells.back x.events x.tests x.ending (subst (λ p. Comes_of p x.events x.tests x.ending) (same_some x.now before o x.is_now was) x.continues) in
         subst (λ z. IsPrefix (take g.0 (event_text program event)) z)
-        (sym (x.text_is ∙ ap (λ es. RunText program es x.ending) y.1 ∙ append_assoc (event_text program event) (flat_map (event_text program) y.0) (ending_text program x.ending)))
+        (sym (x.text_is ∙ ap (λ es. RunText program es x.ending) y.2 ∙ append_assoc (event_text program event) (flat_map (event_text program) y.0) (ending_text program x.ending)))
         (front_of_first g.0 (event_text program event) (RunText program y.0 x.ending));
     grew = g.1;
   }
 
+  -- what has ended gives no event, and no other ending
+  ended_only : (before after : Left) (made : ℕ) (e : Ending) → EndsBy (every_condition program) program bound before made e after → (events : List Event) (tests : ℕ) (e' : Ending) → Comes_of before events tests e' → (events ≡ []) × (e' ≡ e)
+  ended_only before after made e ends events tests e' c =
+      let y = ends.leads.back events tests e' c in
+      let none = subst (λ l. Comes_of l y.0 y.1 e') ends.over y.4 in
+      (y.2 ∙ none.0, none.2)
+
   -- a prefix of the next event was written
-  pub event_begun : (o n : Option Phase) (event : Event) (old new : Option Word) → IsNextAt o event n
+  pub event_begun : (o n : Option Left) (event : Event) (old new : Option Word) → IsNextAt o event n
       → GrewByPrefix old new (event_text program event) → HasBegun (RunTells program bound o) old new
-  event_begun o n (Out text) old new next g = tells_begun o next.before next.after (Out text) old new next.was next.next g
-  event_begun o n (Answer query) old new next g = tells_begun o next.before next.after (Answer query) old new next.was next.next g
+  event_begun o n (Out text) old new next g = tells_begun o next.before next.after (Out text) next.made old new next.was next.next g
+  event_begun o n (Answer query) old new next g = tells_begun o next.before next.after (Answer query) next.made old new next.was next.next g
+  event_begun o n (Broken c) old new next g = tells_begun o next.before next.after (Broken c) next.made old new next.was next.next g
   event_begun o n (End e) old new next g = record {
     piece = take g.0 (ending_text program e);
     begins = λ t s x.
-        let y = next.next.back x.events x.ending (subst (λ p. Comes_from p x.events x.ending) (same_some x.now next.before o x.is_now next.was) x.continues) in
+        let y = ended_only next.before next.after next.made e next.next x.events x.tests x.ending (subst (λ p. Comes_of p x.events x.tests x.ending) (same_some x.now next.before o x.is_now next.was) x.continues) in
         (g.0, ap (take g.0) (sym (x.text_is ∙ ap (λ es. RunText program es x.ending) y.0 ∙ ap (ending_text program) y.1)));
     grew = g.1;
   }
 
   -- where the event is no ending the run goes on
-  pub goes_past : (o n : Option Phase) (event : Event) → IsNextAt o event n → None ≡ event_status event → GoesOn program bound o n
-  goes_past o n (Out text) next none = record { before = next.before; after = next.after; event = Out text; was = next.was; is = next.is; tells = next.next }
-  goes_past o n (Answer query) next none = record { before = next.before; after = next.after; event = Answer query; was = next.was; is = next.is; tells = next.next }
+  pub goes_past : (o n : Option Left) (event : Event) → IsNextAt o event n → None ≡ event_status event → GoesOn program bound o n
+  goes_past o n (Out text) next none = record { before = next.before; after = next.after; event = Out text; was = next.was; is = next.is; made = next.made; tells = next.next }
+  goes_past o n (Answer query) next none = record { before = next.before; after = next.after; event = Answer query; was = next.was; is = next.is; made = next.made; tells = next.next }
+  goes_past o n (Broken c) next none = record { before = next.before; after = next.after; event = Broken c; was = next.was; is = next.is; made = next.made; tells = next.next }
   goes_past o n (End e) next none = absurd (none-some (ending_status e) none)
 
   -- the same, by the status that was found
-  pub next_goes : (o n : Option Phase) (event : Event) (status : Option ℕ) → IsNextAt o event n → status ≡ event_status event → IfNone status (GoesOn program bound o n)
+  pub next_goes : (o n : Option Left) (event : Event) (status : Option ℕ) → IsNextAt o event n → status ≡ event_status event → IfNone status (GoesOn program bound o n)
   next_goes o n event None next is = goes_past o n event next is
   next_goes o n event (Some s) next is = tt
 
   -- the run goes on, or ends, after an event that was written
-  pub comes_next : (o n : Option Phase) (event : Event) (status : Option ℕ) (writing : Type 0) (old new : Option Word) → IsNextAt o event n → status ≡ event_status event
+  pub comes_next : (o n : Option Left) (event : Event) (status : Option ℕ) (writing : Type 0) (old new : Option Word) → IsNextAt o event n → status ≡ event_status event
       → new ≡ grown old (event_text program event)
       → MatchOption status (HasWritten (RunTells program bound o) (RunTells program bound n) old new) (λ s. Comes (RunTells program bound o) writing old new s)
   comes_next o n event None writing old new next is grew = goes_on o n event old new next is grew
@@ -131,34 +146,34 @@ module _ (program : Program) (bound : ℕ) where
 
 -- what a run told, of this program
 pub told_at : (program : Program) (old new : engine.Run) (event : Event) → program_of old ≡ program → HasTold old event new
-    → IsNextAt program (bound_of old) (phase_of old) event (phase_of new)
+    → IsNextAt program (bound_of old) (left_of old) event (left_of new)
 told_at program old new event same told =
-    subst (λ p. IsNextAt p (bound_of old) (phase_of old) event (phase_of new)) same
-    (record { before = told.before; after = told.after; was = told.was; is = told.is; next = told.next (λ quoted. Printed (program_of old).names (program_of old).ops quoted) })
+    subst (λ p. IsNextAt p (bound_of old) (left_of old) event (left_of new)) same
+    (record { before = told.before; after = told.after; was = told.was; is = told.is; made = told.made; next = told.next })
 
 -- the run of a query from its start
-module _ (program : Program) (predicate : ℕ) (query : Term) (bound : ℕ) (calls : called_by program query ≡ Some predicate) where
-  to_call : (phase : Option Phase) → phase ≡ Some (Going (start_of predicate query)) → (text : Word) (status : ℕ) → RunTells program bound phase text status → CallAnswers program query bound text status
-  to_call phase start text status x =
-      let runs : (tests : ℕ) × RunsFrom (λ quoted. Printed program.names program.ops quoted) (every_condition program) program bound (start_of predicate query) x.events tests x.ending =
-      subst (λ p. Comes_from program bound p x.events x.ending) (same_some x.now (Going (start_of predicate query)) phase x.is_now start) x.continues in
-      Ran x.events x.ending (runs.0, record { pred = predicate; calls = calls; runs = runs.1 }) x.text_is x.status_is
+module _ (program : Program) (query : Term) (bound : ℕ) (run : engine.Run) (starts : Starts program query bound run) where
+  to_call : (text : Word) (status : ℕ) → RunTells program bound (left_of run) text status → CallAnswers program query bound text status
+  to_call text status x =
+      let comes = subst (λ p. Comes_of program bound p x.events x.tests x.ending) (same_some x.now starts.whole (left_of run) x.is_now starts.is) x.continues in
+      Ran x.events x.ending (x.tests, starts.forth x.events x.tests x.ending comes) x.text_is x.status_is
 
-  from_call : (phase : Option Phase) → phase ≡ Some (Going (start_of predicate query)) → (text : Word) (status : ℕ) → CallAnswers program query bound text status → RunTells program bound phase text status
-  from_call phase start text status (NotExported none line is) = absurd (none-some predicate (sym none ∙ calls))
-  from_call phase start text status (Ran events e run text_is status_is) = record {
-    now = Going (start_of predicate query);
-    is_now = start;
+  from_call : IsSome (called_by program query) → (text : Word) (status : ℕ) → CallAnswers program query bound text status → RunTells program bound (left_of run) text status
+  from_call called text status (NotExported none line is) = absurd (true≢false (sym called ∙ ap is_some none))
+  from_call called text status (Ran events e ran text_is status_is) = record {
+    now = starts.whole;
+    is_now = starts.is;
     events = events;
+    tests = ran.0;
     ending = e;
-    continues = (run.0, subst (λ p. RunsFrom (λ quoted. Printed program.names program.ops quoted) (every_condition program) program bound (start_of p query) events run.0 e) (same_some run.1.pred predicate (called_by program query) run.1.calls calls) run.1.runs);
+    continues = starts.back events ran.0 e ran.1;
     text_is = text_is;
     status_is = status_is;
   }
 
   -- what the run tells from its start answers the query
-  pub run_answers : (b : ℕ) (phase : Option Phase) (writing : Type 0) (old new : Option Word) (result : ℕ) → b ≡ bound → phase ≡ Some (Going (start_of predicate query))
-      → Comes (RunTells program b phase) writing old new result → Comes (CallAnswers program query bound) writing old new result
-  run_answers b phase writing old new result same start comes =
-      comes_as (RunTells program bound phase) (CallAnswers program query bound) writing old new result (to_call phase start) (from_call phase start)
-      (subst (λ n. Comes (RunTells program n phase) writing old new result) same comes)
+  pub run_answers : (b : ℕ) (writing : Type 0) (old new : Option Word) (result : ℕ) → IsSome (called_by program query) → b ≡ bound
+      → Comes (RunTells program b (left_of run)) writing old new result → Comes (CallAnswers program query bound) writing old new result
+  run_answers b writing old new result called same comes =
+      comes_as (RunTells program bound (left_of run)) (CallAnswers program query bound) writing old new result to_call (from_call called)
+      (subst (λ n. Comes (RunTells program n (left_of run)) writing old new result) same comes)

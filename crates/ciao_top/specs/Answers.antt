@@ -3,7 +3,6 @@ use Rattle.std.specs.Prelude.{◌≡◌, ◌⊎◌, ℕ, ◌<◌, ◌≤◌, Lis
 use Rattle.byte_io.specs.Outside.{Held, Rose, grown}
 use Rattle.ciao_top.specs.Words.{Word, RunWords, AcceptedWords, base_of}
 use Rattle.term_core.specs.declared.terms.Term.{Term}
-use Rattle.term_core.specs.Printing.{Printed}
 use Rattle.prog_data.specs.declared.programs.Program.{Program}
 use Rattle.prog_data.specs.declared.events.Event.{Event}
 use Rattle.prog_data.specs.declared.events.Ending.{Ending}
@@ -32,7 +31,7 @@ pub data QueryAnswers (program : Program) (ops : Operators) (command : RunWords)
       → called_by (with_names names program) query ≡ None
       → text ≡ fault_line (codes "query not exported") → status ≡ 4 → QueryAnswers program ops command text status
   Ran : (names : List Word) (query : Term) → IsQuery ops program.names command.query names query
-      → (events : List Event) (e : Ending) → Run (λ quoted. Printed names program.ops quoted) (with_names names program) query command.steps events e
+      → (events : List Event) (e : Ending) → Run (with_names names program) query command.steps events e
       → text ≡ RunText (with_names names program) events e → status ≡ ending_status e → QueryAnswers program ops command text status
 
 -- the text and the status of a unit: the least line that names a predicate without clauses, or the answers of its program

@@ -1,17 +1,15 @@
 -- What the inner functions of the tool answer.
-use Rattle.std.specs.Prelude.{◌≡◌, ◌≤◌, ℕ, Bool, List, ◌++◌, take, Option, Some, None, IfSome, codes}
+use Rattle.std.specs.Prelude.{◌≡◌, ◌≤◌, ℕ, Bool, List, [], ◌∷◌, ◌++◌, take, Option, Some, None, IfSome, codes}
 use Rattle.byte_io.specs.Outside.{Held, grown, StaysSteady}
 use Rattle.term_core.specs.declared.terms.Term.{Term}
-use Rattle.term_core.specs.Printing.{Printed}
 use Rattle.prog_data.specs.declared.programs.Program.{Program}
 use Rattle.prog_data.specs.declared.events.Event.{Event}
-use Rattle.prog_data.specs.declared.events.Event.TheVariants.{Out, Answer, End}
+use Rattle.prog_data.specs.declared.events.Event.TheVariants.{Out, Answer, End, Broken}
 use Rattle.prog_data.specs.declared.events.Ending.{Ending}
 use Rattle.prog_data.specs.Goals.{called_by}
-use Rattle.machine_model.specs.State.{Phase}
-use Rattle.machine_model.specs.Reading.{every_condition}
+use Rattle.machine_model.specs.Tests.{every_condition}
 use Rattle.machine_model.specs.Run.{Run}
-use Rattle.sld_engine.specs.Continues.{Continues, Tells}
+use Rattle.machine_model.specs.Continues.{Left, Continues, Leads}
 use Rattle.ciao_top.specs.Words.{Word, RunWords}
 use Rattle.ciao_top.specs.declared.words.RunCommand.{RunCommand}
 use Rattle.ciao_top.specs.Lines.{fault_line, file_fault, read_fault}
@@ -55,31 +53,34 @@ abbrev pub event_status : Event → Option ℕ
 event_status (Out text) = None
 event_status (Answer query) = None
 event_status (End e) = Some (ending_status e)
+event_status (Broken c) = None
 
 -- what a run tells from a phase on: the text of the events that are left, and the status
-pub record RunTells (program : Program) (bound : ℕ) (phase : Option Phase) (text : Word) (status : ℕ) : Type 0 where
-  pub now : Phase
-  pub is_now : phase ≡ Some now
+pub record RunTells (program : Program) (bound : ℕ) (left : Option Left) (text : Word) (status : ℕ) : Type 0 where
+  pub now : Left
+  pub is_now : left ≡ Some now
   pub events : List Event
+  pub tests : ℕ
   pub ending : Ending
-  pub continues : Continues (λ quoted. Printed program.names program.ops quoted) (every_condition program) program bound now events ending
+  pub continues : Continues (every_condition program) program bound now events tests ending
   pub text_is : text ≡ RunText program events ending
   pub status_is : status ≡ ending_status ending
 
 -- the run told an event and goes on
-pub record GoesOn (program : Program) (bound : ℕ) (old new : Option Phase) : Type 0 where
-  pub before : Phase
-  pub after : Phase
+pub record GoesOn (program : Program) (bound : ℕ) (old new : Option Left) : Type 0 where
+  pub before : Left
+  pub after : Left
   pub event : Event
   pub was : old ≡ Some before
   pub is : new ≡ Some after
-  pub tells : Tells (λ quoted. Printed program.names program.ops quoted) (every_condition program) program bound before event after
+  pub made : ℕ
+  pub tells : Leads (every_condition program) program bound before (event ∷ []) made after
 
 -- the text and the status of a query that was read
 pub data CallAnswers (program : Program) (query : Term) (bound : ℕ) (text : Word) (status : ℕ) : Type 0 where
   NotExported : called_by program query ≡ None
       → text ≡ fault_line (codes "query not exported") → status ≡ 4 → CallAnswers program query bound text status
-  Ran : (events : List Event) (e : Ending) → Run (λ quoted. Printed program.names program.ops quoted) program query bound events e
+  Ran : (events : List Event) (e : Ending) → Run program query bound events e
       → text ≡ RunText program events e → status ≡ ending_status e → CallAnswers program query bound text status
 
 -- how a run of accepted words comes out

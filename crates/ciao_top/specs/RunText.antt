@@ -13,7 +13,7 @@ use Rattle.prog_data.specs.declared.conditions.CompProp.TheVariants.{NotFails, F
 use Rattle.prog_data.specs.declared.events.ArithKind.{ArithKind}
 use Rattle.prog_data.specs.declared.events.ArithKind.TheVariants.{Overflow, ZeroDivisor, Unbound, NotNumber}
 use Rattle.prog_data.specs.declared.events.Event.{Event}
-use Rattle.prog_data.specs.declared.events.Event.TheVariants.{Out, Answer, End}
+use Rattle.prog_data.specs.declared.events.Event.TheVariants.{Out, Answer, End, Broken}
 use Rattle.prog_data.specs.declared.events.Ending.{Ending}
 use Rattle.prog_data.specs.declared.events.Ending.TheVariants.{NoMore, Bound, Violated, Cyclic, Arithmetic}
 use Rattle.prog_data.specs.Goals.{pred_of}
@@ -51,16 +51,16 @@ module _ (program : Program) where
   abbrev pub pred_text : ℕ → Word
   pred_text p = quoted_text (term.Atom (pred_of program p).name) ++ 47 ∷ decimal (pred_of program p).arity
 
-  -- the line of a condition that was broken
-  abbrev pub violated_text : Option Cond → Word
-  violated_text None = []
-  violated_text (Some c) = line (codes "end: violated " ++ place_text c.place ++ 32 ∷ kind_word c.kind ++ 32 ∷ pred_text c.pred)
+  -- the line of a condition that was broken, behind these words
+  abbrev pub violated_text : Word → Option Cond → Word
+  violated_text words None = []
+  violated_text words (Some c) = line (words ++ place_text c.place ++ 32 ∷ kind_word c.kind ++ 32 ∷ pred_text c.pred)
 
   -- the line of an ending
   abbrev pub ending_text : Ending → Word
   ending_text NoMore = line (codes "end: no more answers")
   ending_text Bound = line (codes "end: unknown, step bound")
-  ending_text (Violated c) = violated_text (slice_get program.conds c)
+  ending_text (Violated c) = violated_text (codes "end: violated ") (slice_get program.conds c)
   ending_text (Cyclic place) = line (codes "end: cyclic term " ++ place_text place)
   ending_text (Arithmetic kind place) = line (codes "end: arithmetic " ++ arithmetic_words kind ++ 32 ∷ place_text place)
 
@@ -69,6 +69,7 @@ module _ (program : Program) where
   event_text (Out text) = text
   event_text (Answer query) = line (codes "answer: " ++ quoted_text query)
   event_text (End e) = ending_text e
+  event_text (Broken c) = violated_text (codes "violated ") (slice_get program.conds c)
 
   -- the text of a run: its events in order, and its ending
   abbrev pub RunText : List Event → Ending → Word

@@ -1,9 +1,9 @@
 // The writing of a run.
-ghost use Rattle.std.specs.Prelude.{◌≡◌, ◌⊎◌, ◌≤◌, ◌^◌, true, Some, IfErr, IfNone, OnOk, OnErr, MatchOption};
+ghost use Rattle.std.specs.Prelude.{◌≡◌, ◌⊎◌, ◌≤◌, ◌^◌, true, IfErr, IfNone, IsSome, OnOk, OnErr, MatchOption};
 ghost use Rattle.byte_io.specs.Outside.{Rose, grown, GrewByPrefix};
 ghost use Rattle.prog_data.specs.Goals.{called_by};
 ghost use Rattle.sld_engine.specs.Built.{is_built};
-ghost use Rattle.sld_engine.specs.Runs.{phase_of, program_of, bound_of};
+ghost use Rattle.sld_engine.specs.Runs.{left_of, program_of, bound_of};
 ghost use Rattle.ciao_top.specs.RunText.{event_text, ending_status};
 ghost use Rattle.ciao_top.specs.InnerAnswers.{DeviceGoesOn, Comes, HasWritten, event_status, RunTells, GoesOn, CallAnswers};
 
@@ -31,7 +31,7 @@ fn event_status(event: &Event) -> Option<u8>
     ensures { result ≡ event_status event.now }
 {
     match event {
-        Event::Out(_) | Event::Answer(_) => None,
+        Event::Out(_) | Event::Answer(_) | Event::Broken(_) => None,
         Event::End(ending) => Some(ending_status(ending)),
     }
 }
@@ -67,9 +67,9 @@ fn write_next<S: Sink>(
 ) -> Option<u8>
     requires { program_of run.old ≡ program.now }
     ensures told { MatchOption result
-        (HasWritten (RunTells program.now (bound_of run.old) (phase_of run.old)) (RunTells program.now (bound_of run.old) (phase_of run.new)) (S.written out.old) (S.written out.new))
-        (λ status. Comes (RunTells program.now (bound_of run.old) (phase_of run.old)) (Rose (S.faults out.old) (S.faults out.new)) (S.written out.old) (S.written out.new) status) }
-    ensures goes { IfNone result (GoesOn program.now (bound_of run.old) (phase_of run.old) (phase_of run.new)) }
+        (HasWritten (RunTells program.now (bound_of run.old) (left_of run.old)) (RunTells program.now (bound_of run.old) (left_of run.new)) (S.written out.old) (S.written out.new))
+        (λ status. Comes (RunTells program.now (bound_of run.old) (left_of run.old)) (Rose (S.faults out.old) (S.faults out.new)) (S.written out.old) (S.written out.new) status) }
+    ensures goes { IfNone result (GoesOn program.now (bound_of run.old) (left_of run.old) (left_of run.new)) }
     ensures sink { DeviceGoesOn (S.steady out.old) (S.steady out.new) (S.faults out.old) (S.faults out.new) }
     ensures program { program_of run.new ≡ program.now }
     ensures bound { bound_of run.new ≡ bound_of run.old }
@@ -86,7 +86,7 @@ fn write_next<S: Sink>(
 // Writes a run to its end.
 fn write_run<S: Sink>(alloc: Global, program: &Program, run: &mut Run<'_>, out: &mut S) -> u8
     requires { program_of run.old ≡ program.now }
-    ensures comes { Comes (RunTells program.now (bound_of run.old) (phase_of run.old)) (Rose (S.faults out.old) (S.faults out.new)) (S.written out.old) (S.written out.new) result }
+    ensures comes { Comes (RunTells program.now (bound_of run.old) (left_of run.old)) (Rose (S.faults out.old) (S.faults out.new)) (S.written out.old) (S.written out.new) result }
     ensures sink { DeviceGoesOn (S.steady out.old) (S.steady out.new) (S.faults out.old) (S.faults out.new) }
 {
     'events: loop {
@@ -97,21 +97,20 @@ fn write_run<S: Sink>(alloc: Global, program: &Program, run: &mut Run<'_>, out: 
     }
 }
 
-/// Writes the run of a query, which calls the predicate with this number, and gives its status.
+/// Writes the run of a query, which is a call of an exported predicate, and gives its status.
 pub(crate) fn answer_run<S: Sink>(
     alloc: Global,
     program: &Program,
-    predicate: u64,
     query: &Term,
     bound: u64,
     out: &mut S,
 ) -> u8
     requires built { is_built program.now ≡ true }
-    requires calls { called_by program.now query.now ≡ Some predicate }
+    requires calls { IsSome (called_by program.now query.now) }
     ensures comes { Comes (CallAnswers program.now query.now bound) (Rose (S.faults out.old) (S.faults out.new)) (S.written out.old) (S.written out.new) result }
     ensures sink { DeviceGoesOn (S.steady out.old) (S.steady out.new) (S.faults out.old) (S.faults out.new) }
 {
-    match Run::new(alloc, program, predicate, query, bound) {
+    match Run::new(alloc, program, query, bound) {
         Err(_) => 9,
         Ok(run) => {
             let mut run = run;

@@ -176,11 +176,16 @@ fn arithmetic_words(kind: ArithKind) -> &'static str
     }
 }
 
-// The line of a broken condition.
-fn condition_text(alloc: Global, program: &Program, condition: &Cond) -> Result<String, NoMemory>
-    ensures { IfOk result (λ text. string_bytes text ≡ violated_text program.now (Some condition.now)) }
+// The line of a broken condition, behind these words.
+fn condition_text(
+    alloc: Global,
+    program: &Program,
+    words: &str,
+    condition: &Cond,
+) -> Result<String, NoMemory>
+    ensures { IfOk result (λ text. string_bytes text ≡ violated_text program.now words.now (Some condition.now)) }
 {
-    let mut text = String::from_str(alloc, "end: violated ")?;
+    let mut text = String::from_str(alloc, words)?;
     push_place(program, condition.place, &mut text)?;
     text.push_str(" ")?;
     text.push_str(kind_word(&condition.kind))?;
@@ -190,12 +195,17 @@ fn condition_text(alloc: Global, program: &Program, condition: &Cond) -> Result<
     Ok(text)
 }
 
-// The line of the condition with a number, nothing where there is none.
-fn violated_text(alloc: Global, program: &Program, condition: u64) -> Result<String, NoMemory>
-    ensures { IfOk result (λ text. string_bytes text ≡ violated_text program.now (slice_get program.now.conds condition)) }
+// The line of the condition with a number, behind these words; nothing where there is none.
+fn violated_text(
+    alloc: Global,
+    program: &Program,
+    words: &str,
+    condition: u64,
+) -> Result<String, NoMemory>
+    ensures { IfOk result (λ text. string_bytes text ≡ violated_text program.now words.now (slice_get program.now.conds condition)) }
 {
     match program.conds.get(condition as usize) {
-        Some(condition) => condition_text(alloc, program, condition),
+        Some(condition) => condition_text(alloc, program, words, condition),
         None => Ok(String::new(alloc)),
     }
 }
@@ -234,7 +244,9 @@ fn ending_text(alloc: Global, program: &Program, ending: &Ending) -> Result<Stri
     match ending {
         Ending::NoMore => Ok(String::from_str(alloc, "end: no more answers\n")?),
         Ending::Bound => Ok(String::from_str(alloc, "end: unknown, step bound\n")?),
-        Ending::Violated(condition) => violated_text(alloc, program, *condition),
+        Ending::Violated(condition) => {
+            violated_text(alloc, program, "end: violated ", *condition)
+        }
         Ending::Cyclic(place) => cyclic_text(alloc, program, *place),
         Ending::Arithmetic(kind, place) => arithmetic_text(alloc, program, *kind, *place),
     }
@@ -262,5 +274,6 @@ pub(crate) fn event_text(
         Event::Out(text) => Ok(String::from_str(alloc, text.as_str())?),
         Event::Answer(query) => answer_text(alloc, program, query),
         Event::End(ending) => ending_text(alloc, program, ending),
+        Event::Broken(condition) => violated_text(alloc, program, "violated ", *condition),
     }
 }

@@ -78,7 +78,7 @@ fn answer_call<S: Sink>(
 {
     match called_by(program, query) {
         None => say(out, "fault: query not exported\n".as_bytes(), 4),
-        Some(predicate) => answer_run(alloc, program, predicate, query, bound, out),
+        Some(_) => answer_run(alloc, program, query, bound, out),
     }
 }
 

@@ -1,5 +1,5 @@
 -- A condition that ends a run is due in the state before, and does not hold there.
-use Rattle.std.proofs.Common.{◌≡◌, ℕ, ◌<◌, Bool, true, false, List, [], ◌∷◌, refl, subst, arith, ◌⊎◌, inl, inr}
+use Rattle.std.proofs.Common.{◌≡◌, ℕ, ◌<◌, Bool, true, false, List, [], ◌∷◌, refl, sym, ◌∙◌, subst, arith, ◌⊎◌, inl, inr}
 use Rattle.std.proofs.lemmas.Bool.Decides.{nat_tests}
 use Rattle.std.specs.Prelude.{nat_le, not, filter, Contains, slice_get, slice_index_or, Option, None, Some, if◌then◌else◌}
 use Rattle.term_core.specs.declared.terms.Term.{Term}
@@ -17,26 +17,49 @@ use Rattle.prog_data.specs.declared.programs.Program.{Program}
 use Rattle.prog_data.specs.declared.events.Ending.TheVariants as ending
 use Rattle.prog_data.specs.Conditions.{kind_of, is_calls, calls_hold, post_holds, exit_breaks, failure_breaks}
 use Rattle.prog_data.specs.Goals.{pred_of}
-use Rattle.prog_data.proofs.Leaves.{In, here, in_cases, filter_in}
+use Rattle.prog_data.proofs.Leaves.{In, here, later, filter_in}
 use Rattle.prog_data.proofs.MembershipLaws.{in_contains}
-use Rattle.machine_model.specs.State.{Item, Does, CutTo, Exits, Frame, Call, Choice, Resume, Try, Mark, Current, Doing, Solving, Failed, State, Going, Over, Trace}
-use Rattle.machine_model.specs.Reading.{every_condition, all_looks}
-use Rattle.machine_model.specs.Step.{step, step_at, frame_step, goal_step, call_made, builtin_step, failure_step, try_step, solving_step, after_tests, quietly, frame_of, mark_of, mark_conds, mark_exited, Effect, Succeeds, Fails, Writes, Equates, Becomes, Faults, effect}
+use Rattle.machine_model.specs.State.{Item, Does, CutTo, Exits, Frame, Call, Choice, Resume, Try, Mark, Current, Doing, Solving, Failed, State, Going, Over, Trace, exit_mark}
+use Rattle.machine_model.specs.Tests.{every_condition, all_looks}
+use Rattle.machine_model.specs.Step.{step, step_at, frame_step, goal_step, call_made, builtin_step, failure_step, try_step, solving_step, finding, after_test, after_tests, quietly, going, frame_of, mark_of, mark_conds, mark_exited, Effect, Succeeds, Fails, Writes, Equates, Becomes, Faults, effect}
 use Rattle.machine_model.specs.Points.{IsCall, IsExit, IsFailure, Due, at_call, at_exit, at_fails, at_later_exit, at_failure}
 
--- the first broken condition is the one that ends the run
-first_broken : (tests : ℕ) (broken : List ℕ) (s : State) (c : ℕ) → (after_tests tests broken (Going s)).phase ≡ Over (ending.Violated c) → In c broken
-first_broken tests [] s c e = cc
-first_broken tests (d ∷ ds) s c e = subst (λ x. In x (d ∷ ds)) (same d c e) here
+-- the condition that ends the run is a broken one of those that are tested, or it comes after the tests
+abbrev FoundIn : (ℕ → Bool) → List ℕ → Trace → ℕ → Type 0
+FoundIn test cs next c = (In c cs × (test c ≡ false)) ⊎ (next.phase ≡ Over (ending.Violated c))
+
+first_broken : (counts : ℕ) (test : ℕ → Bool) (cs : List ℕ) (next : Trace) (c : ℕ) → (after_tests true counts (λ d. finding (test d)) cs next).phase ≡ Over (ending.Violated c) → FoundIn test cs next c
+first_broken counts test [] next c e = inr e
+first_broken counts test (d ∷ ds) next c e = by_test (test d) refl (first_broken counts test ds next c) e
   where
+    further : FoundIn test ds next c → FoundIn test (d ∷ ds) next c
+    further (inl i) = inl (later i.0, i.1)
+    further (inr e) = inr e
+
     same : (d c : ℕ) → Over (ending.Violated d) ≡ Over (ending.Violated c) → d ≡ c
     same d c e = cc
 
-not_true : (b : Bool) → not b ≡ true → b ≡ false
-not_true true e = cc
-not_true false e = refl
+    by_test : (b : Bool) → test d ≡ b → ((after_tests true counts (λ d. finding (test d)) ds next).phase ≡ Over (ending.Violated c) → FoundIn test ds next c) →
+        (after_test true counts d (finding b) (after_tests true counts (λ d. finding (test d)) ds next)).phase ≡ Over (ending.Violated c) → FoundIn test (d ∷ ds) next c
+    by_test true is ih e = further (ih e)
+    by_test false is ih e = inl (subst (λ x. In x (d ∷ ds) × (test x ≡ false)) (same d c e) (here, is))
 
-module _ (text : Bool → Term → List ℕ) (program : Program) (bound : ℕ) (c : ℕ) (s : State) where
+-- where the run goes on after the tests, it is one of them
+broken_here : (counts : ℕ) (test : ℕ → Bool) (cs : List ℕ) (next : Trace) (s : State) (c : ℕ) → next.phase ≡ Going s → (after_tests true counts (λ d. finding (test d)) cs next).phase ≡ Over (ending.Violated c) → In c cs × (test c ≡ false)
+broken_here counts test cs next s c goes e = by_case (first_broken counts test cs next c e)
+  where
+    by_case : FoundIn test cs next c → In c cs × (test c ≡ false)
+    by_case (inl i) = i
+    by_case (inr e) = absurd (apart (sym goes ∙ e))
+      where
+        apart : Going s ≡ Over (ending.Violated c) → ⊥
+        apart e = cc
+
+not_false : (b : Bool) → not b ≡ false → b ≡ true
+not_false true e = refl
+not_false false e = cc
+
+module _ (program : Program) (bound : ℕ) (c : ℕ) (s : State) where
   abbrev pub IsBroken : Type 0
   IsBroken = Due program bound c s (kind_of program c) false
 
@@ -77,16 +100,15 @@ module _ (text : Bool → Term → List ℕ) (program : Program) (bound : ℕ) (
   Ends t = t.phase ≡ Over (ending.Violated c)
 
   call_broken : (f : Frame) (g : Goal) (h : ℕ) (place : Place) (rest : List Item) (p : ℕ) (args : List Term) → s.current ≡ Doing f → f.items ≡ Does g h place ∷ rest → out-Goal g ≡ CallGoal p args → (b : Bool) → nat_le bound s.calls ≡ b →
-      Ends (if b then quietly (Over ending.Bound) else call_made text (every_condition program) program bound s p (pred_of program p) args (frame_of rest f)) → IsBroken
+      Ends (if b then quietly (Over ending.Bound) else call_made (every_condition program) program bound s p (pred_of program p) args (frame_of rest f)) → IsBroken
   call_broken f g h place rest p args now items goal true le e = cc
   call_broken f g h place rest p args now items goal false le e =
-      let i = first_broken _ _ _ c e in
-      let broken = filter_in (λ c. not (calls_hold program.grammar args (kind_of program c))) (all_looks program (pred_of program p)).calls i in
-      let has = filter_in (λ c. is_calls (kind_of program c)) (pred_of program p).conds broken.0 in
+      let i = broken_here 1 (λ c. calls_hold program.grammar args (kind_of program c)) (all_looks program (pred_of program p)).calls _ _ c refl e in
+      let has = filter_in (λ c. is_calls (kind_of program c)) (pred_of program p).conds i.0 in
       let may : s.calls < bound = grind (arith, nat_tests) in
-      by_call (kind_of program c) p args (record { may = may; frame = f; now = now; first = (g, h, place, rest, items, goal) }) (in_contains (pred_of program p).conds has.0) (not_true _ broken.1)
+      by_call (kind_of program c) p args (record { may = may; frame = f; now = now; first = (g, h, place, rest, items, goal) }) (in_contains (pred_of program p).conds has.0) i.1
 
-  builtin_safe : (e : Effect) (h : ℕ) (place : Place) (rest : Frame) → Ends (builtin_step text (every_condition program) program bound s e h place rest) → IsBroken
+  builtin_safe : (e : Effect) (h : ℕ) (place : Place) (rest : Frame) → Ends (builtin_step (every_condition program) program bound s e h place rest) → IsBroken
   builtin_safe Succeeds h place rest e = cc
   builtin_safe Fails h place rest e = cc
   builtin_safe (Writes bytes) h place rest e = cc
@@ -95,9 +117,9 @@ module _ (text : Bool → Term → List ℕ) (program : Program) (bound : ℕ) (
   builtin_safe (Faults kind) h place rest e = cc
 
   goal_broken : (f : Frame) (g : Goal) (h : ℕ) (place : Place) (rest : List Item) (l : Goal-F Goal) → s.current ≡ Doing f → f.items ≡ Does g h place ∷ rest → out-Goal g ≡ l →
-      Ends (goal_step text (every_condition program) program bound s l h place (frame_of rest f)) → IsBroken
+      Ends (goal_step (every_condition program) program bound s l h place (frame_of rest f)) → IsBroken
   goal_broken f g h place rest (CallGoal p args) now items goal e = call_broken f g h place rest p args now items goal (nat_le bound s.calls) refl e
-  goal_broken f g h place rest (BuiltinGoal b args) now items goal e = builtin_safe (effect text program b (slice_index_or args 0 (term.Atom 0)) (slice_index_or args 1 (term.Atom 0))) h place (frame_of rest f) e
+  goal_broken f g h place rest (BuiltinGoal b args) now items goal e = builtin_safe (effect program b (slice_index_or args 0 (term.Atom 0)) (slice_index_or args 1 (term.Atom 0))) h place (frame_of rest f) e
   goal_broken f g h place rest True now items goal e = cc
   goal_broken f g h place rest Fail now items goal e = cc
   goal_broken f g h place rest Cut now items goal e = cc
@@ -107,43 +129,51 @@ module _ (text : Bool → Term → List ℕ) (program : Program) (bound : ℕ) (
   goal_broken f g h place rest (Not a) now items goal e = cc
   goal_broken f g h place rest Exit now items goal e = cc
 
-  frame_broken : (f : Frame) (items : List Item) → s.current ≡ Doing f → f.items ≡ items → Ends (frame_step text (every_condition program) program bound s f items) → IsBroken
+  frame_broken : (f : Frame) (items : List Item) → s.current ≡ Doing f → f.items ≡ items → Ends (frame_step (every_condition program) program bound s f items) → IsBroken
   frame_broken f [] now is e = cc
   frame_broken f (Does g h place ∷ rest) now is e = goal_broken f g h place rest (out-Goal g) now is refl e
   frame_broken f (CutTo h ∷ rest) now is e = cc
-  frame_broken f (Exits p args noted mark ∷ rest) now is e = by_case (in_cases (filter (λ c. not (post_holds program.grammar args (kind_of program c))) noted) _ (first_broken _ _ _ c e))
+  frame_broken f (Exits p args noted mark ∷ rest) now is e = by_note (first_broken 1 (λ c. post_holds program.grammar args (kind_of program c)) noted marked c e)
     where
-      by_case : In c (filter (λ c. not (post_holds program.grammar args (kind_of program c))) noted) ⊎ In c (filter (λ c. exit_breaks (mark_exited (mark_of mark s.choices)) (kind_of program c)) (mark_conds (mark_of mark s.choices))) → IsBroken
-      by_case (inl i) =
-          let b = filter_in (λ c. not (post_holds program.grammar args (kind_of program c))) noted i in
-          by_exit (kind_of program c) p args noted mark (record { frame = f; now = now; first = (rest, is) }) (in_contains noted b.0) (not_true _ b.1)
-      by_case (inr i) =
-          let b = filter_in (λ c. exit_breaks (mark_exited (mark_of mark s.choices)) (kind_of program c)) (mark_conds (mark_of mark s.choices)) i in
-          by_mark (kind_of program c) p args noted mark (mark_of mark s.choices) refl (record { frame = f; now = now; first = (rest, is) }) b.0 b.1
+      marked : Trace
+      marked = after_tests true 0 (λ c. finding (not (exit_breaks (mark_exited (mark_of mark s.choices)) (kind_of program c)))) (mark_conds (mark_of mark s.choices))
+          (quietly (going s (exit_mark mark s.choices) (Doing (frame_of rest f))))
 
-  try_safe : (clause : Option Clause) (call : Call) (cs : List Choice) → Ends (try_step text (every_condition program) program bound s clause call cs) → IsBroken
+      is_exit : IsExit s p args noted mark
+      is_exit = record { frame = f; now = now; first = (rest, is) }
+
+      by_condition : marked.phase ≡ Over (ending.Violated c) → IsBroken
+      by_condition e =
+          let i = broken_here 0 (λ c. not (exit_breaks (mark_exited (mark_of mark s.choices)) (kind_of program c))) (mark_conds (mark_of mark s.choices)) _ _ c refl e in
+          by_mark (kind_of program c) p args noted mark (mark_of mark s.choices) refl is_exit i.0 (not_false _ i.1)
+
+      by_note : FoundIn (λ c. post_holds program.grammar args (kind_of program c)) noted marked c → IsBroken
+      by_note (inl i) = by_exit (kind_of program c) p args noted mark is_exit (in_contains noted i.0) i.1
+      by_note (inr e) = by_condition e
+
+  try_safe : (clause : Option Clause) (call : Call) (cs : List Choice) → Ends (try_step (every_condition program) program bound s clause call cs) → IsBroken
   try_safe None call cs e = cc
   try_safe (Some clause) call cs e = cc
 
-  failure_broken : (cs : List Choice) → s.current ≡ Failed → s.choices ≡ cs → Ends (failure_step text (every_condition program) program bound s cs) → IsBroken
+  failure_broken : (cs : List Choice) → s.current ≡ Failed → s.choices ≡ cs → Ends (failure_step (every_condition program) program bound s cs) → IsBroken
   failure_broken [] now is e = cc
   failure_broken (Resume f ∷ cs) now is e = cc
   failure_broken (Try k call ∷ cs) now is e = try_safe (slice_get (pred_of program call.pred).clauses k) call cs e
   failure_broken (Mark p conds exited ∷ cs) now is e =
-      let b = filter_in (λ c. failure_breaks exited (kind_of program c)) conds (first_broken _ _ _ c e) in
-      by_failure (kind_of program c) conds exited (record { now = now; first = (p, cs, is) }) (in_contains conds b.0) b.1
+      let i = broken_here 0 (λ c. not (failure_breaks exited (kind_of program c))) conds _ _ c refl e in
+      by_failure (kind_of program c) conds exited (record { now = now; first = (p, cs, is) }) (in_contains conds i.0) (not_false _ i.1)
 
-  solving_safe : (place : Place) (stage : Stage) (f : Frame) → Ends (solving_step text (every_condition program) program bound s place stage f) → IsBroken
+  solving_safe : (place : Place) (stage : Stage) (f : Frame) → Ends (solving_step (every_condition program) program bound s place stage f) → IsBroken
   solving_safe place (Open es bs) f e = cc
   solving_safe place (Ended (Solved bs)) f e = cc
   solving_safe place (Ended Clash) f e = cc
   solving_safe place (Ended Cyclic) f e = cc
 
-  current_broken : (cur : Current) → s.current ≡ cur → Ends (step_at text (every_condition program) program bound s cur) → IsBroken
+  current_broken : (cur : Current) → s.current ≡ cur → Ends (step_at (every_condition program) program bound s cur) → IsBroken
   current_broken (Doing f) now e = frame_broken f f.items now refl e
   current_broken (Solving place stage f) now e = solving_safe place stage f e
   current_broken Failed now e = failure_broken s.choices now refl e
 
   -- a condition that a step breaks is due and does not hold
-  pub step_broken : Ends (step text (every_condition program) program bound s) → IsBroken
+  pub step_broken : Ends (step (every_condition program) program bound s) → IsBroken
   step_broken e = current_broken s.current refl e

@@ -1,5 +1,5 @@
 -- A state of a run that tests every condition, and the one that a run which has only some of them is in: marks with none of these are gone, and each height counts the choices that are left.
-use Rattle.std.proofs.Common.{◌≡◌, ℕ, suc, ◌<◌, ◌≤◌, Bool, true, false, List, [], ◌∷◌, length, map, refl, ap, sym, ◌∙◌, subst, arith, cond}
+use Rattle.std.proofs.Common.{◌≡◌, ℕ, suc, ◌<◌, ◌≤◌, Bool, true, false, List, [], ◌∷◌, length, map, refl, ap, sym, ◌∙◌, subst, arith, cond, ◌⊎◌, inl, inr}
 use Rattle.std.proofs.lemmas.Bool.Decides.{nat_tests}
 use Rattle.std.specs.Prelude.{nat_le, ◌==◌, Option, None, Some, if◌then◌else◌, filter}
 use Rattle.term_core.specs.declared.terms.Term.{Term}
@@ -147,10 +147,10 @@ module _ (keeps : ℕ → Bool) where
 
   -- exits
 
-  filter_keep : (f : ℕ → Bool) (c : ℕ) (cs : List ℕ) → f c ≡ true → filter f (c ∷ cs) ≡ c ∷ filter f cs
+  pub filter_keep : (f : ℕ → Bool) (c : ℕ) (cs : List ℕ) → f c ≡ true → filter f (c ∷ cs) ≡ c ∷ filter f cs
   filter_keep f c cs e = ap (λ b. cond b (c ∷ filter f cs) (filter f cs)) e
 
-  filter_drop : (f : ℕ → Bool) (c : ℕ) (cs : List ℕ) → f c ≡ false → filter f (c ∷ cs) ≡ filter f cs
+  pub filter_drop : (f : ℕ → Bool) (c : ℕ) (cs : List ℕ) → f c ≡ false → filter f (c ∷ cs) ≡ filter f cs
   filter_drop f c cs e = ap (λ b. cond b (c ∷ filter f cs) (filter f cs)) e
 
   pub filter_filter : (f g : ℕ → Bool) (cs : List ℕ) → filter f (filter g cs) ≡ filter g (filter f cs)
@@ -198,32 +198,33 @@ module _ (keeps : ℕ → Bool) where
   exit_newer : (h : ℕ) (c : Choice) (cs : List Choice) → h < length cs → exit_mark (Some h) (c ∷ cs) ≡ c ∷ exit_mark (Some h) cs
   exit_newer h c cs le = ap (λ b. if b then exited c ∷ cs else c ∷ exit_mark (Some h) cs) (less h (length cs) le)
 
-  -- after an exit the choices are related as before, and what the mark's conditions break in the other run are the kept ones of what they break in this one
+  -- the mark that the other run finds has the kept conditions of the one that is found here, and is exited where that is, or neither has one of them
+  pub record Found (o o' : Option Choice) : Type 0 where
+    pub conds : mark_conds o' ≡ filter keeps (mark_conds o)
+    pub exits : (mark_exited o' ≡ mark_exited o) ⊎ ([] ≡ filter keeps (mark_conds o))
+
+  -- after an exit the choices are related as before
   pub record Exit (ks : List Kind) (cs cs' : List Choice) (m m' : Option ℕ) : Type 0 where
     pub choices : Choices ks (exit_mark m cs) (exit_mark m' cs')
-    pub broken : (test' test : Bool → ℕ → Bool) → ((e : Bool) → Agree (test' e) (test e)) → filter (test' (mark_exited (mark_of m' cs'))) (mark_conds (mark_of m' cs')) ≡ filter keeps (filter (test (mark_exited (mark_of m cs))) (mark_conds (mark_of m cs)))
-
-  -- what is broken by a mark that was found
-  breaks_at : (test : Bool → ℕ → Bool) → Option Choice → List ℕ
-  breaks_at test o = filter (test (mark_exited o)) (mark_conds o)
+    pub found : Found (mark_of m cs) (mark_of m' cs')
 
   exit_both : {ks : List Kind} {k : Kind} {cs cs' : List Choice} (c c' : Choice) (h h' : ℕ) → h < length cs → h' < length cs' → ((ds ds' : List Choice) → Choices ks ds ds' → Choices (k ∷ ks) (c ∷ ds) (c' ∷ ds')) → Exit ks cs cs' (Some h) (Some h') → Exit (k ∷ ks) (c ∷ cs) (c' ∷ cs') (Some h) (Some h')
   exit_both {ks} {k} {cs} {cs'} c c' h h' le le' build r = record {
     choices = subst (λ x. Choices (k ∷ ks) x (exit_mark (Some h') (c' ∷ cs'))) (sym (exit_newer h c cs le)) (subst (λ x. Choices (k ∷ ks) (c ∷ exit_mark (Some h) cs) x) (sym (exit_newer h' c' cs' le')) (build _ _ r.choices));
-    broken = λ test' test agree. ap (λ o. filter (test' (mark_exited o)) (mark_conds o)) (at_newer h' c' cs' le') ∙ r.broken test' test agree ∙ ap (λ o. filter keeps (filter (test (mark_exited o)) (mark_conds o))) (sym (at_newer h c cs le));
+    found = subst (λ o. Found o (choice_at h' (c' ∷ cs'))) (sym (at_newer h c cs le)) (subst (λ o. Found (choice_at h cs) o) (sym (at_newer h' c' cs' le')) r.found);
   }
 
   exit_left : {ks : List Kind} {k : Kind} {cs cs' : List Choice} (c : Choice) (h : ℕ) (m' : Option ℕ) → h < length cs → ((ds ds' : List Choice) → Choices ks ds ds' → Choices (k ∷ ks) (c ∷ ds) ds') → Exit ks cs cs' (Some h) m' → Exit (k ∷ ks) (c ∷ cs) cs' (Some h) m'
   exit_left {ks} {k} {cs} {cs'} c h m' le build r = record {
     choices = subst (λ x. Choices (k ∷ ks) x (exit_mark m' cs')) (sym (exit_newer h c cs le)) (build _ _ r.choices);
-    broken = λ test' test agree. r.broken test' test agree ∙ ap (λ o. filter keeps (filter (test (mark_exited o)) (mark_conds o))) (sym (at_newer h c cs le));
+    found = subst (λ o. Found o (mark_of m' cs')) (sym (at_newer h c cs le)) r.found;
   }
 
   -- where the other run has no mark, a newer choice of both changes nothing for it
   exit_none : {ks : List Kind} {k : Kind} {cs cs' : List Choice} (c c' : Choice) (h : ℕ) → h < length cs → ((ds ds' : List Choice) → Choices ks ds ds' → Choices (k ∷ ks) (c ∷ ds) (c' ∷ ds')) → Exit ks cs cs' (Some h) None → Exit (k ∷ ks) (c ∷ cs) (c' ∷ cs') (Some h) None
   exit_none {ks} {k} {cs} {cs'} c c' h le build r = record {
     choices = subst (λ x. Choices (k ∷ ks) x (c' ∷ cs')) (sym (exit_newer h c cs le)) (build _ _ r.choices);
-    broken = λ test' test agree. r.broken test' test agree ∙ ap (λ o. filter keeps (filter (test (mark_exited o)) (mark_conds o))) (sym (at_newer h c cs le));
+    found = subst (λ o. Found o None) (sym (at_newer h c cs le)) r.found;
   }
 
   lower : {ks js : List Kind} {k : Kind} {cs cs' : List Choice} → Choices ks cs cs' → Older ks (k ∷ js) → length js < length cs
@@ -240,7 +241,7 @@ module _ (keeps : ℕ → Bool) where
   exit_kept {js = js} (dropped {p = p} {conds = conds} {e = e} same rest) (newer o) = exit_left (Mark p conds e) (length js) (Some (plain js)) (lower rest o) (λ ds ds' x. dropped same x) (exit_kept rest o)
   exit_kept (kept {ks = ks} {p = p} {conds = conds} {conds' = conds'} {e = e} {cs = cs} {cs' = cs'} same rest) whole = record {
     choices = subst (λ x. Choices (Kept conds ∷ ks) x (exit_mark (Some (plain ks)) (Mark p conds' e ∷ cs'))) (sym (exit_here (length ks) (Mark p conds e) cs (length_kinds rest))) (subst (λ x. Choices (Kept conds ∷ ks) (Mark p conds true ∷ cs) x) (sym (exit_here (plain ks) (Mark p conds' e) cs' (plain_kinds rest))) (kept same rest));
-    broken = λ test' test agree. ap (λ o. filter (test' (mark_exited o)) (mark_conds o)) (at_here (plain ks) (Mark p conds' e) cs' (plain_kinds rest)) ∙ ap (filter (test' e)) same ∙ filter_kept (test' e) (test e) (agree e) conds ∙ ap (λ o. filter keeps (filter (test (mark_exited o)) (mark_conds o))) (sym (at_here (length ks) (Mark p conds e) cs (length_kinds rest)));
+    found = subst (λ o. Found o (choice_at (plain ks) (Mark p conds' e ∷ cs'))) (sym (at_here (length ks) (Mark p conds e) cs (length_kinds rest))) (subst (λ o. Found (Some (Mark p conds e)) o) (sym (at_here (plain ks) (Mark p conds' e) cs' (plain_kinds rest))) (record { conds = same; exits = inl refl }));
   }
 
   exit_dropped : {ks js : List Kind} {conds : List ℕ} {cs cs' : List Choice} → Choices ks cs cs' → Older ks (Dropped conds ∷ js) → Exit ks cs cs' (Some (length js)) None
@@ -251,11 +252,11 @@ module _ (keeps : ℕ → Bool) where
   exit_dropped {js = js} (dropped {p = p} {conds = conds} {e = e} same rest) (newer o) = exit_left (Mark p conds e) (length js) None (lower rest o) (λ ds ds' x. dropped same x) (exit_dropped rest o)
   exit_dropped (dropped {ks = ks} {p = p} {conds = conds} {e = e} {cs = cs} {cs' = cs'} same rest) whole = record {
     choices = subst (λ x. Choices (Dropped conds ∷ ks) x cs') (sym (exit_here (length ks) (Mark p conds e) cs (length_kinds rest))) (dropped same rest);
-    broken = λ test' test agree. ap (filter (test e)) same ∙ filter_filter (test e) keeps conds ∙ ap (λ o. filter keeps (filter (test (mark_exited o)) (mark_conds o))) (sym (at_here (length ks) (Mark p conds e) cs (length_kinds rest)));
+    found = subst (λ o. Found o None) (sym (at_here (length ks) (Mark p conds e) cs (length_kinds rest))) (record { conds = same; exits = inr same });
   }
 
   pub exit_related : {ks : List Kind} {cs cs' : List Choice} {m m' : Option ℕ} → Choices ks cs cs' → Marks ks m m' → Exit ks cs cs' m m'
-  exit_related rel no_mark = record { choices = rel; broken = λ test' test agree. refl }
+  exit_related rel no_mark = record { choices = rel; found = record { conds = refl; exits = inl refl } }
   exit_related {ks} {cs} {cs'} rel (kept_mark {h' = h'} conds js o e e') = subst (λ h. Exit ks cs cs' (Some h) (Some h')) (sym e) (subst (λ h. Exit ks cs cs' (Some (length js)) (Some h)) (sym e') (exit_kept rel o))
   exit_related {ks} {cs} {cs'} rel (dropped_mark conds js o e) = subst (λ h. Exit ks cs cs' (Some h) None) (sym e) (exit_dropped rel o)
 

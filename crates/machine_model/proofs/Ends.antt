@@ -24,7 +24,7 @@ use Rattle.prog_data.specs.declared.events.Ending.TheVariants as ending
 use Rattle.prog_data.specs.Arithmetic.{Number, value}
 use Rattle.prog_data.specs.Goals.{pred_of, without_exit, goal_instance, goal_instance_step}
 use Rattle.machine_model.specs.State.{Item, Does, CutTo, Exits, Frame, Call, Choice, Resume, Try, Mark, Current, Doing, Solving, Failed, State, Phase, Going, Over, Trace, item_instance, cut, exited, exit_mark}
-use Rattle.machine_model.specs.Reading.{Reading}
+use Rattle.machine_model.specs.Tests.{Tests}
 use Rattle.machine_model.specs.Step.{step, frame_step, goal_step, call_step, call_made, quietly, builtin_step, failure_step, try_step, solving_step, truth, with_value, compare, Effect, Succeeds, Fails, Writes, Equates, Becomes, Faults, effect}
 use Rattle.machine_model.specs.Run.{steps}
 use Rattle.machine_model.specs.Laws.{Ends}
@@ -133,8 +133,8 @@ compare_light x test a b = value_light x _ (value a) (λ m. value_light x _ (val
 not_weight : (ts : List Term) (x : ℕ) → goal_weight (goal.Not (goal.Builtin builtin.Unify ts)) x ≡ x + 1 + 1 + 2 + x + 2
 not_weight ts x = ap (λ w. w x) (fold-Not (ℕ → ℕ) goal_weight_step (goal.Builtin builtin.Unify ts)) ∙ ap (λ w. w (x + 1 + 1) + x + 2) (fold-Builtin (ℕ → ℕ) goal_weight_step builtin.Unify ts)
 
-module _ (text : Bool → Term → List ℕ) (r : Reading) (program : Program) (bound : ℕ) where
-  effect_light : (b : Builtin) (s t : Term) (x : ℕ) → effect_weight (effect text program b s t) x < builtin_weight b x
+module _ (what : Tests) (program : Program) (bound : ℕ) where
+  effect_light : (b : Builtin) (s t : Term) (x : ℕ) → effect_weight (effect program b s t) x < builtin_weight b x
   effect_light builtin.Unify s t x = omega arith
   effect_light builtin.NotUnify s t x = omega (arith, not_weight (s ∷ t ∷ []) x)
   effect_light builtin.Same s t x = truth_light x _
@@ -158,7 +158,7 @@ module _ (text : Bool → Term → List ℕ) (r : Reading) (program : Program) (
 
   -- the items behind a clause's body
   abbrev pub behind : Clause → Call → List Item
-  behind clause call = if r.exits clause.body then Exits call.pred call.args call.noted call.mark ∷ call.rest.items else call.rest.items
+  behind clause call = if what.exits clause.body then Exits call.pred call.args call.noted call.mark ∷ call.rest.items else call.rest.items
 
   abbrev pub try_weight : Option Clause → Call → ℕ
   try_weight None call = 1
@@ -212,17 +212,17 @@ module _ (text : Bool → Term → List ℕ) (r : Reading) (program : Program) (
     abbrev Falls : Trace → Type 0
     Falls t = IfGoing (Less c m) t.phase
 
-    call_falls : (s : State) (p : ℕ) (pred : Pred) (args : List Term) (rest : Frame) → s.calls ≡ c → Falls (call_step text r program bound s p pred args rest)
+    call_falls : (s : State) (p : ℕ) (pred : Pred) (args : List Term) (rest : Frame) → s.calls ≡ c → Falls (call_step what program bound s p pred args rest)
     call_falls s p pred args rest same = by_bound (nat_le bound s.calls) refl
       where
-        by_bound : (b : Bool) → nat_le bound s.calls ≡ b → Falls (if b then quietly (Over ending.Bound) else call_made text r program bound s p pred args rest)
+        by_bound : (b : Bool) → nat_le bound s.calls ≡ b → Falls (if b then quietly (Over ending.Bound) else call_made what program bound s p pred args rest)
         by_bound true e = tt
         by_bound false e =
             let below : c < bound = grind (arith, nat_tests) in
             let next : (cs : List Choice) → Less c m (record { calls = suc s.calls; fresh = s.fresh; choices = cs; current = Failed }) = λ cs. makes (ap suc same) below in
             search (after_tests_keep, next)
 
-    builtin_falls : (s : State) (e : Effect) (h : ℕ) (place : Place) (rest : Frame) → s.calls ≡ c → choices_weight s.choices + effect_weight e (items_weight rest.items) < m → Falls (builtin_step text r program bound s e h place rest)
+    builtin_falls : (s : State) (e : Effect) (h : ℕ) (place : Place) (rest : Frame) → s.calls ≡ c → choices_weight s.choices + effect_weight e (items_weight rest.items) < m → Falls (builtin_step what program bound s e h place rest)
     builtin_falls s Succeeds h place rest same big = falls same big
     builtin_falls s Fails h place rest same big = falls same big
     builtin_falls s (Writes bytes) h place rest same big = falls same big
@@ -230,7 +230,7 @@ module _ (text : Bool → Term → List ℕ) (r : Reading) (program : Program) (
     builtin_falls s (Becomes g) h place rest same big = falls same big
     builtin_falls s (Faults kind) h place rest same big = tt
 
-    goal_falls : (s : State) (l : Goal-F Goal) (h : ℕ) (place : Place) (rest : Frame) → s.calls ≡ c → choices_weight s.choices + layer_weight l (items_weight rest.items) ≤ m → Falls (goal_step text r program bound s l h place rest)
+    goal_falls : (s : State) (l : Goal-F Goal) (h : ℕ) (place : Place) (rest : Frame) → s.calls ≡ c → choices_weight s.choices + layer_weight l (items_weight rest.items) ≤ m → Falls (goal_step what program bound s l h place rest)
     goal_falls s True h place rest same big = falls same (omega (arith, big))
     goal_falls s Fail h place rest same big = falls same (omega (arith, big))
     goal_falls s Cut h place rest same big = falls same (omega (arith, big, cut_light h s.choices))
@@ -247,7 +247,7 @@ module _ (text : Bool → Term → List ℕ) (r : Reading) (program : Program) (
         falls same (omega (arith, big, first))
     goal_falls s Exit h place rest same big = falls same (omega (arith, big))
 
-    frame_falls : (s : State) (f : Frame) (items : List Item) → s.calls ≡ c → choices_weight s.choices + items_weight items ≤ m → Falls (frame_step text r program bound s f items)
+    frame_falls : (s : State) (f : Frame) (items : List Item) → s.calls ≡ c → choices_weight s.choices + items_weight items ≤ m → Falls (frame_step what program bound s f items)
     frame_falls s f [] same big = falls same (omega (arith, big))
     frame_falls s f (Does g h place ∷ items) same big = let is = outermost g (items_weight items) in goal_falls s (out-Goal g) h place _ same (omega (arith, big, is))
     frame_falls s f (CutTo h ∷ items) same big = falls same (omega (arith, big, cut_light h s.choices))
@@ -256,13 +256,13 @@ module _ (text : Bool → Term → List ℕ) (r : Reading) (program : Program) (
         let next : Less c m (record s { choices = exit_mark mark s.choices; current = Doing (record f { items = items }) }) = falls same (omega (arith, big, is)) in
         search (after_tests_keep, next)
 
-    try_falls : (s : State) (clause : Option Clause) (call : Call) (cs : List Choice) → s.calls ≡ c → try_weight clause call + choices_weight cs ≤ m → Falls (try_step text r program bound s clause call cs)
+    try_falls : (s : State) (clause : Option Clause) (call : Call) (cs : List Choice) → s.calls ≡ c → try_weight clause call + choices_weight cs ≤ m → Falls (try_step what program bound s clause call cs)
     try_falls s None call cs same big = falls same (omega (arith, big))
     try_falls s (Some clause) call cs same big =
         let is = ap (λ w. w (items_weight (behind clause call))) (same_weight (higher s.fresh) (without_exit clause.body)) in
         falls same (omega (arith, big, is))
 
-    failure_falls : (s : State) (cs : List Choice) → s.calls ≡ c → choices_weight cs ≤ m → Falls (failure_step text r program bound s cs)
+    failure_falls : (s : State) (cs : List Choice) → s.calls ≡ c → choices_weight cs ≤ m → Falls (failure_step what program bound s cs)
     failure_falls s [] same big = tt
     failure_falls s (Resume f ∷ cs) same big = falls same (omega (arith, big))
     failure_falls s (Try k call ∷ cs) same big = try_falls s (slice_get (pred_of program call.pred).clauses k) call cs same big
@@ -270,16 +270,16 @@ module _ (text : Bool → Term → List ℕ) (r : Reading) (program : Program) (
         let next : Less c m (record s { choices = cs; current = Failed }) = falls same (omega (arith, big)) in
         search (after_tests_keep, next)
 
-    solved_falls : (s : State) (place : Place) (o : Outcome) (f : Frame) → s.calls ≡ c → choices_weight s.choices + (items_weight f.items + 1) ≤ m → Falls (solving_step text r program bound s place (Ended o) f)
+    solved_falls : (s : State) (place : Place) (o : Outcome) (f : Frame) → s.calls ≡ c → choices_weight s.choices + (items_weight f.items + 1) ≤ m → Falls (solving_step what program bound s place (Ended o) f)
     solved_falls s place (Solved bs) f same big = let is = same_items (values bs) f.items in falls same (omega (arith, big, is))
     solved_falls s place Clash f same big = falls same (omega (arith, big))
     solved_falls s place Cyclic f same big = tt
 
   -- after some steps the run is over
   abbrev pub Halts : Phase → Type 0
-  Halts p = (k : ℕ) × (e : Ending) × ((steps text r program bound k p).phase ≡ Over e)
+  Halts p = (k : ℕ) × (e : Ending) × ((steps what program bound k p).phase ≡ Over e)
 
-  from_step : (s : State) → Halts (step text r program bound s).phase → Halts (Going s)
+  from_step : (s : State) → Halts (step what program bound s).phase → Halts (Going s)
   from_step s h = (suc h.0, h.1, h.2)
 
   after_fall : (c m : ℕ) (p : Phase) → IfGoing (Less c m) p → ((s : State) → s.calls ≡ c → state_weight s < m → Halts (Going s)) → ((s : State) → s.calls ≡ suc c → c < bound → Halts (Going s)) → Halts p
@@ -314,8 +314,8 @@ module _ (text : Bool → Term → List ℕ) (r : Reading) (program : Program) (
       (λ s same less. halts (suc n) m s.calls s.fresh s.choices s.current (omega (arith, few, same)) less)
       (λ s same below. halts n (suc (state_weight s)) s.calls s.fresh s.choices s.current (omega (arith, few, same, below)) (omega arith))))
 
-pub ends : (text : Bool → Term → List ℕ) (r : Reading) (program : Program) → Ends text r program
-ends text r program bound s =
-    let h = halts text r program bound (suc (bound - s.calls)) (suc (state_weight text r program bound s)) s.calls s.fresh s.choices s.current (omega arith) (omega arith) in
-    let t = steps text r program bound h.0 (Going s) in
+pub ends : (what : Tests) (program : Program) → Ends what program
+ends what program bound s =
+    let h = halts what program bound (suc (bound - s.calls)) (suc (state_weight what program bound s)) s.calls s.fresh s.choices s.current (omega arith) (omega arith) in
+    let t = steps what program bound h.0 (Going s) in
     (t.events, t.tests, h.1, record { count = h.0; trace = λ i. record { events = t.events; tests = t.tests; phase = h.2 i } })

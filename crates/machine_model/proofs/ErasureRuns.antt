@@ -1,5 +1,5 @@
 -- The erased program's run begins with the events of the program's, and is the same where no condition is broken: it is the run that has none of the conditions.
-use Rattle.std.proofs.Common.{◌≡◌, ℕ, zero, suc, Bool, false, List, [], ◌∷◌, map, refl, ap, ◌∙◌}
+use Rattle.std.proofs.Common.{◌≡◌, ℕ, zero, suc, Bool, true, false, List, [], ◌∷◌, map, refl, ap, ◌∙◌, subst}
 use Rattle.std.specs.Prelude.{find, filter, slice_get, slice_index_or, Option, None, Some, option_map, if◌then◌else◌}
 use Rattle.std.specs.Option.{option_map_or}
 use Rattle.std.specs.List.{AllByRecursion}
@@ -10,14 +10,17 @@ use Rattle.prog_data.specs.declared.goals.Goal.TheOpen.{Goal-F, True, Fail, Cut,
 use Rattle.prog_data.specs.declared.programs.Clause.{Clause}
 use Rattle.prog_data.specs.declared.programs.Pred.{Pred}
 use Rattle.prog_data.specs.declared.programs.Program.{Program}
+use Rattle.prog_data.specs.declared.events.Event.{Event}
+use Rattle.prog_data.specs.declared.events.Event.TheVariants as event
 use Rattle.prog_data.specs.declared.events.Ending.{Ending}
 use Rattle.prog_data.specs.declared.events.Ending.TheVariants as ending
 use Rattle.prog_data.specs.Goals.{pred_of, no_pred, ends_in_exit, ends_in_exit_at, without_exit_at, called_by, calls_pred, is_called}
-use Rattle.machine_model.specs.Reading.{Looks, all_looks, only_looks}
+use Rattle.machine_model.specs.Tests.{Looks, all_looks, only_looks}
 use Rattle.machine_model.specs.Erasure.{erase, erase_pred, erase_clause, HasNoExit}
-use Rattle.machine_model.specs.Laws.{Erases, IsViolated, BreaksOther}
-use Rattle.machine_model.proofs.DropSteps.{Fewer}
-use Rattle.machine_model.proofs.DropRuns.{same_until}
+use Rattle.machine_model.specs.Laws.{Erases, ToldErases, IsViolated, BreaksOther, without_broken}
+use Rattle.machine_model.specs.Run.{Run}
+use Rattle.machine_model.proofs.DropSteps.{Fewer, is_seen}
+use Rattle.machine_model.proofs.DropRuns.{fewer_run, same_until}
 
 -- a body without Exit at its end is left as it is
 pub no_exit : (body : Goal) (g : Goal-F Goal) → ends_in_exit_at g ≡ false → without_exit_at body g ≡ body
@@ -64,8 +67,9 @@ module _ (program : Program) where
   erased_looks p = ap (all_looks (erase program)) (erase_pred_at program.preds p) ∙ no_looks (all_looks program (pred_of program p))
 
   -- the erased program has none of the conditions, and the same clauses
-  erased : HasNoExit program → Fewer none program (erase program) (all_looks (erase program))
-  erased linked = record {
+  erased : (stops stops' : Bool) → HasNoExit program → Fewer stops stops' none program (erase program) (all_looks (erase program))
+  erased stops stops' linked = record {
+    mode_is = λ c e. cc;
     looks_are = erased_looks;
     clauses_are = λ p. ap (λ pred. pred.clauses) (erase_pred_at program.preds p) ∙ erase_clauses (pred_of program p).clauses (linked p);
     kinds_are = λ c e. cc;
@@ -82,7 +86,21 @@ module _ (program : Program) where
   called_same : (query : Term) → called_by (erase program) query ≡ called_by program query
   called_same query = λ i. find (λ p. same_call query p i) program.exports
 
-pub erases : (text : Bool → Term → List ℕ) (program : Program) → Erases text program
-erases text program linked query bound =
-    let fewer = same_until text program none (map erase_pred program.preds) [] [] (all_looks (erase program)) (erased program linked) bound query (called_same program query) in
+pub erases : (program : Program) → Erases program
+erases program linked query bound =
+    let fewer = same_until program none (map erase_pred program.preds) [] [] (all_looks (erase program)) (erased program true true linked) bound query (called_same program query) in
     record { both = fewer.both; begins = fewer.begins; same = λ es es' e e' run other safe. fewer.same es es' e e' run other (λ broken. safe (violated_only e broken)) }
+
+-- of what is told, what no condition is told of
+none_seen : (es : List Event) → filter (is_seen false none) es ≡ without_broken es
+none_seen [] = refl
+none_seen (event.Out bytes ∷ es) = ap (λ es. event.Out bytes ∷ es) (none_seen es)
+none_seen (event.Answer query ∷ es) = ap (λ es. event.Answer query ∷ es) (none_seen es)
+none_seen (event.End e ∷ es) = ap (λ es. event.End e ∷ es) (none_seen es)
+none_seen (event.Broken c ∷ es) = none_seen es
+
+-- the run that tells each broken condition and goes on, without these events
+pub told_erases : (program : Program) → ToldErases program
+told_erases program linked query bound es e run =
+    let fewer = fewer_run false true program none (map erase_pred program.preds) [] [] (all_looks (erase program)) (erased program false true linked) bound query (called_same program query) es e run (λ stopping. cc) in
+    subst (λ es. Run (erase program) query bound es e) (none_seen es) fewer

@@ -1,5 +1,5 @@
 -- The run of an instrumented program by its checks is that of the program with only the kept conditions, but for exits that test nothing.
-use Rattle.std.proofs.Common.{zero, map, arith, ◌≡◌, ℕ, suc, Bool, true, false, List, [], ◌∷◌, ◌++◌, length, refl, ap, sym, ◌∙◌, subst}
+use Rattle.std.proofs.Common.{zero, map, arith, ◌≡◌, ℕ, suc, ◌+◌, Bool, true, false, List, [], ◌∷◌, ◌++◌, length, refl, ap, sym, ◌∙◌, subst}
 use Rattle.std.specs.Prelude.{nat_le, not, filter, slice_get, slice_index_or, Option, None, Some, if◌then◌else◌}
 use Rattle.term_core.specs.declared.terms.Term.{Term, out-Term}
 use Rattle.term_core.specs.declared.terms.Term as term
@@ -11,14 +11,15 @@ use Rattle.prog_data.specs.declared.goals.Goal.TheOpen.{Goal-F, True, Fail, Cut,
 use Rattle.prog_data.specs.declared.programs.Clause.{Clause}
 use Rattle.prog_data.specs.declared.programs.Place.{Place}
 use Rattle.prog_data.specs.declared.programs.Program.{Program}
+use Rattle.prog_data.specs.declared.events.Event.TheVariants as event
 use Rattle.prog_data.specs.declared.events.Ending.{Ending}
 use Rattle.prog_data.specs.declared.events.Ending.TheVariants.{Violated}
 use Rattle.prog_data.specs.declared.events.Ending.TheVariants as ending
-use Rattle.prog_data.specs.Conditions.{kind_of, pre_holds, post_holds, exit_breaks}
+use Rattle.prog_data.specs.Conditions.{kind_of, pre_holds, calls_hold, post_holds, exit_breaks, failure_breaks}
 use Rattle.prog_data.specs.Goals.{pred_of, ends_in_exit, without_exit, goal_instance}
 use Rattle.machine_model.specs.State.{Item, Does, CutTo, Exits, Frame, Call, Choice, Resume, Try, Mark, Current, Doing, Solving, Failed, State, Phase, Going, Over, Trace, item_instance, cut, choice_at, exited, exit_mark}
-use Rattle.machine_model.specs.Reading.{Reading, Looks, every_condition, kept_checks, all_looks, only_looks, only_kept}
-use Rattle.machine_model.specs.Step.{step, frame_step, goal_step, call_step, call_made, builtin_step, failure_step, try_step, solving_step, after_tests, tries, with_mark, mark_height, mark_of, mark_conds, mark_exited, quietly, Effect, Succeeds, Fails, Writes, Equates, Becomes, Faults, effect}
+use Rattle.machine_model.specs.Tests.{Tests, Looks, every_condition, kept_checks, all_looks, only_looks, only_kept}
+use Rattle.machine_model.specs.Step.{step, frame_step, goal_step, call_step, call_made, builtin_step, failure_step, try_step, solving_step, Finding, Holds, Breaks, Unknown, finding, after_test, after_tests, tries, with_mark, mark_height, mark_of, mark_conds, mark_exited, quietly, Effect, Succeeds, Fails, Writes, Equates, Becomes, Faults, effect}
 use Rattle.std.specs.List.{AllByRecursion}
 use Rattle.std.specs.Prelude.{option_map, ◌==◌}
 use Rattle.term_core.specs.Terms.{higher}
@@ -154,14 +155,20 @@ module _ (program : Program) (statuses : List Status) where
     moves : Alike t t' → Follows t s' t'
     stays : (s : State) → t.events ≡ [] → t.phase ≡ Going s → States s s' → Follows t s' t'
 
-  pub tested : (tests tests' : ℕ) (broken broken' : List ℕ) (next next' : Phase) → broken ≡ broken' → Alike (quietly next) (quietly next') → Alike (after_tests tests broken next) (after_tests tests' broken' next')
-  tested tests tests' [] [] next next' e h = record { events = refl; phases = h.phases }
-  tested tests tests' [] (d ∷ ds) next next' e h = cc
-  tested tests tests' (c ∷ cs) [] next next' e h = cc
-  tested tests tests' (c ∷ cs) (d ∷ ds) next next' e h = subst (λ x. Alike (after_tests tests (c ∷ cs) next) (after_tests tests' (x ∷ ds) next')) (heads c d e) (record { events = refl; phases = over })
-    where
-      heads : (c d : ℕ) → c ∷ cs ≡ d ∷ ds → c ≡ d
-      heads c d e = cc
+  recount : (t t' : Trace) (n n' : ℕ) → Alike t t' → Alike (record t { tests = n }) (record t' { tests = n' })
+  recount t t' n n' a = record { events = a.events; phases = a.phases }
+
+  -- one test in both
+  one_tested : (stops : Bool) (counts counts' c : ℕ) (found : Finding) (t t' : Trace) → Alike t t' → Alike (after_test stops counts c found t) (after_test stops counts' c found t')
+  one_tested stops counts counts' c Holds t t' a = recount t t' (counts + t.tests) (counts' + t'.tests) a
+  one_tested true counts counts' c Breaks t t' a = record { events = refl; phases = over }
+  one_tested false counts counts' c Breaks t t' a = record { events = ap (λ es. event.Broken c ∷ es) a.events; phases = a.phases }
+  one_tested stops counts counts' c Unknown t t' a = record { events = refl; phases = over }
+
+  -- the same tests in both
+  pub tested : (stops : Bool) (counts counts' : ℕ) (find : ℕ → Finding) (cs : List ℕ) (next next' : Trace) → Alike next next' → Alike (after_tests stops counts find cs next) (after_tests stops counts' find cs next')
+  tested stops counts counts' find [] next next' a = a
+  tested stops counts counts' find (c ∷ cs) next next' a = one_tested stops counts counts' c (find c) _ _ (tested stops counts counts' find cs next next' a)
 
   nothing : (notes marks : List ℕ) → has_exit notes marks ≡ false → (notes ≡ []) × (marks ≡ [])
   nothing [] [] e = (refl, refl)
@@ -180,21 +187,36 @@ module _ (program : Program) (statuses : List Status) where
   length_if true cl = length_map cl
   length_if false cl = refl
 
-module _ (text : Bool → Term → List ℕ) (program : Program) (statuses : List Status) (linked : HasNoExit program) (bound : ℕ) where
+module _ (stops : Bool) (program : Program) (statuses : List Status) (linked : HasNoExit program) (bound : ℕ) where
   abbrev pub keeps : ℕ → Bool
   keeps = is_kept statuses
 
-  abbrev pub some : Reading
-  some = only_kept keeps (every_condition program)
+  abbrev pub some : Tests
+  some = record (only_kept keeps (every_condition program)) { stops = stops }
 
   abbrev pub checks : Program
   checks = instrumented program statuses
 
+  abbrev pub by_checks : Tests
+  by_checks = record (kept_checks checks) { stops = stops }
+
   abbrev pub one : State → Trace
-  one = step text some program bound
+  one = step some program bound
 
   abbrev pub other : State → Trace
-  other = step text (kept_checks checks) checks bound
+  other = step by_checks checks bound
+
+  -- the tests of two marks that are alike
+  marks_tested : (o o' : Option Choice) → mark_conds o ≡ mark_conds o' → mark_exited o ≡ mark_exited o' → (next next' : Trace) → Alike program statuses next next' →
+      Alike program statuses (after_tests stops 0 (λ c. finding (not (exit_breaks (mark_exited o) (kind_of program c)))) (mark_conds o) next) (after_tests stops 0 (λ c. finding (not (exit_breaks (mark_exited o') (kind_of program c)))) (mark_conds o') next')
+  marks_tested o o' conds exits next next' a =
+      subst (λ e. Alike program statuses here (there e (mark_conds o'))) exits (subst (λ ds. Alike program statuses here (there (mark_exited o) ds)) conds (tested program statuses stops 0 0 _ (mark_conds o) next next' a))
+    where
+      here : Trace
+      here = after_tests stops 0 (λ c. finding (not (exit_breaks (mark_exited o) (kind_of program c)))) (mark_conds o) next
+
+      there : Bool → List ℕ → Trace
+      there e ds = after_tests stops 0 (λ c. finding (not (exit_breaks e (kind_of program c)))) ds next'
 
   module _ (n fresh : ℕ) where
     abbrev pub at : List Choice → Current → State
@@ -204,7 +226,7 @@ module _ (text : Bool → Term → List ℕ) (program : Program) (statuses : Lis
     goes a b = record { events = refl; phases = on (states a b) }
 
     builtin_alike : (cs cs' : List Choice) (c c' : Current) (e : Effect) (h : ℕ) (place : Place) (is is' : List Item) (query : Term) → Choices program statuses cs cs' → Items is is' →
-        Alike program statuses (builtin_step text some program bound (at cs c) e h place (record { items = is; query = query })) (builtin_step text (kept_checks checks) checks bound (at cs' c') e h place (record { items = is'; query = query }))
+        Alike program statuses (builtin_step some program bound (at cs c) e h place (record { items = is; query = query })) (builtin_step by_checks checks bound (at cs' c') e h place (record { items = is'; query = query }))
     builtin_alike cs cs' c c' Succeeds h place is is' query ch items = goes ch (doing (frames items))
     builtin_alike cs cs' c c' Fails h place is is' query ch items = goes ch failed
     builtin_alike cs cs' c c' (Writes bytes) h place is is' query ch items = record { events = refl; phases = on (states ch (doing (frames items))) }
@@ -213,21 +235,21 @@ module _ (text : Bool → Term → List ℕ) (program : Program) (statuses : Lis
     builtin_alike cs cs' c c' (Faults kind) h place is is' query ch items = record { events = refl; phases = over }
 
     call_alike : (cs cs' : List Choice) (c c' : Current) (p : ℕ) (args : List Term) (is is' : List Item) (query : Term) → Choices program statuses cs cs' → Items is is' →
-        Alike program statuses (call_step text some program bound (at cs c) p (pred_of program p) args (record { items = is; query = query })) (call_step text (kept_checks checks) checks bound (at cs' c') p (pred_of checks p) args (record { items = is'; query = query }))
+        Alike program statuses (call_step some program bound (at cs c) p (pred_of program p) args (record { items = is; query = query })) (call_step by_checks checks bound (at cs' c') p (pred_of checks p) args (record { items = is'; query = query }))
     call_alike cs cs' c c' p args is is' query ch items =
-        subst (λ pred. Alike program statuses (call_step text some program bound (at cs c) p (pred_of program p) args (record { items = is; query = query })) (call_step text (kept_checks checks) checks bound (at cs' c') p pred args (record { items = is'; query = query })))
+        subst (λ pred. Alike program statuses (call_step some program bound (at cs c) p (pred_of program p) args (record { items = is; query = query })) (call_step by_checks checks bound (at cs' c') p pred args (record { items = is'; query = query })))
         (sym (pred_at program statuses program.preds p)) (by_bound (nat_le bound n))
       where
-        made : Alike program statuses (call_made text some program bound (at cs c) p (pred_of program p) args (record { items = is; query = query })) (call_made text (kept_checks checks) checks bound (at cs' c') p (instrumented_pred program statuses (pred_of program p)) args (record { items = is'; query = query }))
+        made : Alike program statuses (call_made some program bound (at cs c) p (pred_of program p) args (record { items = is; query = query })) (call_made by_checks checks bound (at cs' c') p (instrumented_pred program statuses (pred_of program p)) args (record { items = is'; query = query }))
         made =
             let l = only_looks (is_kept statuses) (all_looks program (pred_of program p)) in
             let pre : ℕ → Bool = λ c. pre_holds program.grammar args (kind_of program c) in
             let marked = filter pre l.marks in
             let below = with_mark_choices program statuses p marked cs cs' ch in
-            subst (λ k. Alike program statuses (call_made text some program bound (at cs c) p (pred_of program p) args (record { items = is; query = query }))
-            (call_made text (record (kept_checks checks) { looks = λ pred. k }) checks bound (at cs' c') p (instrumented_pred program statuses (pred_of program p)) args (record { items = is'; query = query })))
+            subst (λ k. Alike program statuses (call_made some program bound (at cs c) p (pred_of program p) args (record { items = is; query = query }))
+            (call_made (record by_checks { looks = λ pred. k }) checks bound (at cs' c') p (instrumented_pred program statuses (pred_of program p)) args (record { items = is'; query = query })))
             (sym (looks_same program statuses (pred_of program p)))
-            (tested program statuses _ _ _ _ _ _ refl (record {
+            (tested program statuses stops 1 1 (λ c. finding (calls_hold program.grammar args (kind_of program c))) l.calls _ _ (record {
               events = refl;
               phases = on (states (tries_choices program statuses 0 (pred_of program p).clauses (instrumented_pred program statuses (pred_of program p)).clauses (length_if program statuses (has program statuses p) (pred_of program p).clauses)
                   (record { pred = p; args = args; noted = filter pre l.notes; mark = mark_height marked cs; height = length (with_mark p marked cs); rest = record { items = is; query = query } })
@@ -236,43 +258,41 @@ module _ (text : Bool → Term → List ℕ) (program : Program) (statuses : Lis
                   (calls (λ no. let e = nothing program statuses l.notes l.marks no in (ap (filter pre) e.0, ap (λ ms. mark_height (filter pre ms) cs) e.1)) (mark_height_same program statuses marked cs cs' (length_same program statuses ch)) (length_same program statuses below) (frames items)) below) failed);
             }))
 
-        by_bound : (b : Bool) → Alike program statuses (if b then quietly (Over ending.Bound) else call_made text some program bound (at cs c) p (pred_of program p) args (record { items = is; query = query }))
-            (if b then quietly (Over ending.Bound) else call_made text (kept_checks checks) checks bound (at cs' c') p (instrumented_pred program statuses (pred_of program p)) args (record { items = is'; query = query }))
+        by_bound : (b : Bool) → Alike program statuses (if b then quietly (Over ending.Bound) else call_made some program bound (at cs c) p (pred_of program p) args (record { items = is; query = query }))
+            (if b then quietly (Over ending.Bound) else call_made by_checks checks bound (at cs' c') p (instrumented_pred program statuses (pred_of program p)) args (record { items = is'; query = query }))
         by_bound true = record { events = refl; phases = over }
         by_bound false = made
 
     goal_alike : (cs cs' : List Choice) (c c' : Current) (g : Goal-F Goal) (h : ℕ) (place : Place) (is is' : List Item) (query : Term) → Choices program statuses cs cs' → Items is is' →
-        Alike program statuses (goal_step text some program bound (at cs c) g h place (record { items = is; query = query })) (goal_step text (kept_checks checks) checks bound (at cs' c') g h place (record { items = is'; query = query }))
+        Alike program statuses (goal_step some program bound (at cs c) g h place (record { items = is; query = query })) (goal_step by_checks checks bound (at cs' c') g h place (record { items = is'; query = query }))
     goal_alike cs cs' c c' True h place is is' query ch items = goes ch (doing (frames items))
     goal_alike cs cs' c c' Fail h place is is' query ch items = goes ch failed
     goal_alike cs cs' c c' Cut h place is is' query ch items = goes (cut_choices program statuses h ch) (doing (frames items))
     goal_alike cs cs' c c' (CallGoal p args) h place is is' query ch items = call_alike cs cs' c c' p args is is' query ch items
     goal_alike cs cs' c c' (BuiltinGoal b args) h place is is' query ch items =
-        builtin_alike cs cs' c c' (effect text program b (slice_index_or args 0 (term.Atom 0)) (slice_index_or args 1 (term.Atom 0))) h place is is' query ch items
+        builtin_alike cs cs' c c' (effect program b (slice_index_or args 0 (term.Atom 0)) (slice_index_or args 1 (term.Atom 0))) h place is is' query ch items
     goal_alike cs cs' c c' (Conj a b) h place is is' query ch items = goes ch (doing (frames (same (same items))))
     goal_alike cs cs' c c' (Disj a b) h place is is' query ch items = goes (resume (frames (same items)) ch) (doing (frames (same items)))
     goal_alike cs cs' c c' (IfElse t a b) h place is is' query ch items =
-        subst (λ k. Alike program statuses (goal_step text some program bound (at cs c) (IfElse t a b) h place (record { items = is; query = query }))
+        subst (λ k. Alike program statuses (goal_step some program bound (at cs c) (IfElse t a b) h place (record { items = is; query = query }))
         (quietly (Going (at (Resume (record { items = Does b h place ∷ is'; query = query }) ∷ cs') (Doing (record { items = Does t (suc k) place ∷ CutTo k ∷ Does a h place ∷ is'; query = query }))))))
         (length_same program statuses ch) (goes (resume (frames (same items)) ch) (doing (frames (same (same (same items))))))
     goal_alike cs cs' c c' (Not a) h place is is' query ch items =
-        subst (λ k. Alike program statuses (goal_step text some program bound (at cs c) (Not a) h place (record { items = is; query = query }))
+        subst (λ k. Alike program statuses (goal_step some program bound (at cs c) (Not a) h place (record { items = is; query = query }))
         (quietly (Going (at (Resume (record { items = is'; query = query }) ∷ cs') (Doing (record { items = Does a (suc k) place ∷ CutTo k ∷ Does goal.Fail h place ∷ is'; query = query }))))))
         (length_same program statuses ch) (goes (resume (frames items) ch) (doing (frames (same (same (same items))))))
     goal_alike cs cs' c c' Exit h place is is' query ch items = goes ch (doing (frames items))
 
     item_alike : (cs cs' : List Choice) (c c' : Current) (i : Item) (is is' : List Item) (query : Term) → Choices program statuses cs cs' → Items is is' →
-        Alike program statuses (frame_step text some program bound (at cs c) (record { items = i ∷ is; query = query }) (i ∷ is)) (frame_step text (kept_checks checks) checks bound (at cs' c') (record { items = i ∷ is'; query = query }) (i ∷ is'))
+        Alike program statuses (frame_step some program bound (at cs c) (record { items = i ∷ is; query = query }) (i ∷ is)) (frame_step by_checks checks bound (at cs' c') (record { items = i ∷ is'; query = query }) (i ∷ is'))
     item_alike cs cs' c c' (Does g h place) is is' query ch items = goal_alike cs cs' c c' (out-Goal g) h place is is' query ch items
     item_alike cs cs' c c' (CutTo h) is is' query ch items = goes (cut_choices program statuses h ch) (doing (frames items))
     item_alike cs cs' c c' (Exits p args noted m) is is' query ch items =
         let x = exit_choices program statuses m ch in
-        tested program statuses _ _ _ _ _ _ (ap (λ e. filter (λ c. not (post_holds program.grammar args (kind_of program c))) noted ++ filter (λ c. exit_breaks e (kind_of program c)) (mark_conds (mark_of m cs))) x.exits
-        ∙ ap (λ ds. filter (λ c. not (post_holds program.grammar args (kind_of program c))) noted ++ filter (λ c. exit_breaks (mark_exited (mark_of m cs')) (kind_of program c)) ds) x.conds)
-        (record { events = refl; phases = on (states x.choices (doing (frames items))) })
+        tested program statuses stops 1 1 _ noted _ _ (marks_tested (mark_of m cs) (mark_of m cs') x.conds x.exits _ _ (goes x.choices (doing (frames items))))
 
     frame_follows : (cs cs' : List Choice) (c c' : Current) (is is' : List Item) (query : Term) → Choices program statuses cs cs' → Items is is' → c' ≡ Doing (record { items = is'; query = query }) →
-        Follows program statuses (frame_step text some program bound (at cs c) (record { items = is; query = query }) is) (at cs' c') (frame_step text (kept_checks checks) checks bound (at cs' c') (record { items = is'; query = query }) is')
+        Follows program statuses (frame_step some program bound (at cs c) (record { items = is; query = query }) is) (at cs' c') (frame_step by_checks checks bound (at cs' c') (record { items = is'; query = query }) is')
     frame_follows cs cs' c c' is is' query ch none now = moves (record { events = refl; phases = on (states ch failed) })
     frame_follows cs cs' c c' is is' query ch (same {i = i} {is = rest} {is' = rest'} items) now = moves (item_alike cs cs' c c' i rest rest' query ch items)
     frame_follows cs cs' c c' is is' query ch (extra {is = rest} items) now =
@@ -280,8 +300,8 @@ module _ (text : Bool → Term → List ℕ) (program : Program) (statuses : Lis
 
     clause_alike : (cs cs' ds ds' : List Choice) (p : ℕ) (clause : Clause) (args : List Term) (noted : List ℕ) (m m' : Option ℕ) (h h' : ℕ) (is is' : List Item) (query : Term) (b : Bool) → ends_in_exit clause.body ≡ false → has program statuses p ≡ b →
         Choices program statuses cs cs' → TestsNothing (has program statuses p) noted m → m ≡ m' → h ≡ h' → Items is is' →
-        Alike program statuses (try_step text some program bound (at ds Failed) (Some clause) (record { pred = p; args = args; noted = noted; mark = m; height = h; rest = record { items = is; query = query } }) cs)
-        (try_step text (kept_checks checks) checks bound (at ds' Failed) (Some (if b then with_exit clause else clause)) (record { pred = p; args = args; noted = noted; mark = m'; height = h'; rest = record { items = is'; query = query } }) cs')
+        Alike program statuses (try_step some program bound (at ds Failed) (Some clause) (record { pred = p; args = args; noted = noted; mark = m; height = h; rest = record { items = is; query = query } }) cs)
+        (try_step by_checks checks bound (at ds' Failed) (Some (if b then with_exit clause else clause)) (record { pred = p; args = args; noted = noted; mark = m'; height = h'; rest = record { items = is'; query = query } }) cs')
     clause_alike cs cs' ds ds' p clause args noted m m' h h' is is' query true whole e ch empty em eh items =
         let body' = with_exit_at clause.body (out-Goal clause.body) in
         let value : ℕ → Term = higher fresh in
@@ -324,29 +344,29 @@ module _ (text : Bool → Term → List ℕ) (program : Program) (statuses : Lis
 
     try_alike : (cs cs' ds ds' : List Choice) (k p : ℕ) (args : List Term) (noted : List ℕ) (m m' : Option ℕ) (h h' : ℕ) (rest rest' : Frame) →
         Choices program statuses cs cs' → TestsNothing (has program statuses p) noted m → m ≡ m' → h ≡ h' → Frames rest rest' →
-        Alike program statuses (try_step text some program bound (at ds Failed) (slice_get (pred_of program p).clauses k) (record { pred = p; args = args; noted = noted; mark = m; height = h; rest = rest }) cs)
-        (try_step text (kept_checks checks) checks bound (at ds' Failed) (slice_get (pred_of checks p).clauses k) (record { pred = p; args = args; noted = noted; mark = m'; height = h'; rest = rest' }) cs')
+        Alike program statuses (try_step some program bound (at ds Failed) (slice_get (pred_of program p).clauses k) (record { pred = p; args = args; noted = noted; mark = m; height = h; rest = rest }) cs)
+        (try_step by_checks checks bound (at ds' Failed) (slice_get (pred_of checks p).clauses k) (record { pred = p; args = args; noted = noted; mark = m'; height = h'; rest = rest' }) cs')
     try_alike cs cs' ds ds' k p args noted m m' h h' rest rest' ch empty em eh (frames {is} {is'} {query} items) =
         let cl = (pred_of program p).clauses in
         let call : Call = record { pred = p; args = args; noted = noted; mark = m; height = h; rest = rest } in
         let call' : Call = record { pred = p; args = args; noted = noted; mark = m'; height = h'; rest = rest' } in
-        let step' : Option Clause → Trace = λ o. try_step text (kept_checks checks) checks bound (at ds' Failed) o call' cs' in
-        subst (λ o. Alike program statuses (try_step text some program bound (at ds Failed) (slice_get cl k) call cs) (step' o))
+        let step' : Option Clause → Trace = λ o. try_step by_checks checks bound (at ds' Failed) o call' cs' in
+        subst (λ o. Alike program statuses (try_step some program bound (at ds Failed) (slice_get cl k) call cs) (step' o))
         (sym (ap (λ pred. slice_get pred.clauses k) (pred_at program statuses program.preds p) ∙ clause_if (has program statuses p) cl k)) (by_clause (slice_get cl k) refl)
       where
-        by_clause : (o : Option Clause) → slice_get (pred_of program p).clauses k ≡ o → Alike program statuses (try_step text some program bound (at ds Failed) o (record { pred = p; args = args; noted = noted; mark = m; height = h; rest = record { items = is; query = query } }) cs)
-            (try_step text (kept_checks checks) checks bound (at ds' Failed) (option_map (λ c. if has program statuses p then with_exit c else c) o) (record { pred = p; args = args; noted = noted; mark = m'; height = h'; rest = record { items = is'; query = query } }) cs')
+        by_clause : (o : Option Clause) → slice_get (pred_of program p).clauses k ≡ o → Alike program statuses (try_step some program bound (at ds Failed) o (record { pred = p; args = args; noted = noted; mark = m; height = h; rest = record { items = is; query = query } }) cs)
+            (try_step by_checks checks bound (at ds' Failed) (option_map (λ c. if has program statuses p then with_exit c else c) o) (record { pred = p; args = args; noted = noted; mark = m'; height = h'; rest = record { items = is'; query = query } }) cs')
         by_clause None e = goes ch failed
         by_clause (Some clause) e = clause_alike cs cs' ds ds' p clause args noted m m' h h' is is' query (has program statuses p) (no_exit_at (pred_of program p).clauses k clause (linked p) e) refl ch empty em eh items
 
-    failure_follows : (cs cs' : List Choice) → Choices program statuses cs cs' → Alike program statuses (failure_step text some program bound (at cs Failed) cs) (failure_step text (kept_checks checks) checks bound (at cs' Failed) cs')
+    failure_follows : (cs cs' : List Choice) → Choices program statuses cs cs' → Alike program statuses (failure_step some program bound (at cs Failed) cs) (failure_step by_checks checks bound (at cs' Failed) cs')
     failure_follows cs cs' none = record { events = refl; phases = over }
     failure_follows cs cs' (resume r ch) = goes ch (doing r)
     failure_follows cs cs' (try {k = k} {cs = older} {cs' = older'} (calls {p = p} {args = args} {noted = noted} {mark = m} {mark' = m'} {h = h} {h' = h'} {rest = rest} {rest' = rest'} empty em eh r) ch) = try_alike older older' cs cs' k p args noted m m' h h' rest rest' ch empty em eh r
-    failure_follows cs cs' (mark ch) = tested program statuses _ _ _ _ _ _ refl (record { events = refl; phases = on (states ch failed) })
+    failure_follows cs cs' (mark {conds = conds} {e = e} ch) = tested program statuses stops 0 0 (λ c. finding (not (failure_breaks e (kind_of program c)))) conds _ _ (goes ch failed)
 
     solving_alike : (cs cs' : List Choice) (c c' : Current) (place : Place) (stage : Stage) (f f' : Frame) → Choices program statuses cs cs' → Frames f f' →
-        Alike program statuses (solving_step text some program bound (at cs c) place stage f) (solving_step text (kept_checks checks) checks bound (at cs' c') place stage f')
+        Alike program statuses (solving_step some program bound (at cs c) place stage f) (solving_step by_checks checks bound (at cs' c') place stage f')
     solving_alike cs cs' c c' place (Open es bs) f f' ch r = goes ch (solving r)
     solving_alike cs cs' c c' place (Ended (Solved bs)) f f' ch (frames items) = goes ch (doing (frames (items_instance (values bs) items)))
     solving_alike cs cs' c c' place (Ended Clash) f f' ch r = goes ch failed

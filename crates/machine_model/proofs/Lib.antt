@@ -1,16 +1,17 @@
-pub mod Samples
-pub mod Rows
+mod Samples
+mod Rows
 pub mod OneRun
-pub mod Invariants
+mod Invariants
 pub mod Ends
-pub mod BothWays
-pub mod DropRelation
-pub mod DropSteps
-pub mod DropRuns
-pub mod ErasureRuns
-pub mod BrokenDue
-pub mod SoundRuns
-pub mod InstrumentedLooks
-pub mod ErasedInstrumented
-pub mod InstrumentedSteps
-pub mod InstrumentedRuns
+mod BothWays
+pub mod Continuing
+mod DropRelation
+mod DropSteps
+mod DropRuns
+mod ErasureRuns
+mod BrokenDue
+mod SoundRuns
+mod InstrumentedLooks
+mod ErasedInstrumented
+mod InstrumentedSteps
+mod InstrumentedRuns

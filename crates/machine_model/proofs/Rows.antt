@@ -13,14 +13,14 @@ use Rattle.prog_data.specs.declared.events.Event.TheVariants.{Answer}
 use Rattle.prog_data.specs.declared.events.Ending.{Ending}
 use Rattle.prog_data.specs.declared.events.Ending.TheVariants.{NoMore, Bound, Violated, Cyclic}
 use Rattle.machine_model.specs.State.{Trace, Going, Over}
-use Rattle.machine_model.specs.Reading.{Reading, every_condition, kept_checks}
+use Rattle.machine_model.specs.Tests.{Tests, every_condition, kept_checks}
 use Rattle.machine_model.specs.Run.{steps, start_of}
 use Rattle.machine_model.specs.Instrumented.{instrumented}
-use Rattle.machine_model.proofs.Samples.{p, f, a, b, number, at, v, w, c, h, no_text}
+use Rattle.machine_model.proofs.Samples.{p, f, a, b, number, at, v, w, c, h}
 use denote.Hole.Carrier
 
-abbrev pub run_by : Reading → Program → ℕ → Term → ℕ → ℕ → Trace
-run_by r program pred query bound count = steps no_text r program bound count (Going (start_of pred query))
+abbrev pub run_by : Tests → Program → ℕ → Term → ℕ → ℕ → Trace
+run_by what program pred query bound count = steps what program bound count (Going (start_of pred query))
 
 abbrev pub run : Program → ℕ → Term → ℕ → ℕ → Trace
 run program = run_by (every_condition program) program

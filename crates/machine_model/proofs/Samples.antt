@@ -61,10 +61,6 @@ v = program (pred p 1 (clause (Var 0 ∷ []) goal.True 1 4 ∷ []) (0 ∷ []) �
 abbrev pub w : Program
 w = program (pred p 1 (clause (f a ∷ []) goal.True 0 3 ∷ clause (number 1 ∷ []) goal.True 0 4 ∷ []) (0 ∷ []) ∷ []) (cond 0 0 2 (kind.Success (prop.Belongs 0 1 ∷ []) (prop.Belongs 0 4 ∷ [])) ∷ []) (0 ∷ [])
 
--- the text of a written term is no part of these
-abbrev pub no_text : Bool → Term → List ℕ
-no_text quoted t = []
-
 -- c: n(z). n(s(X)) :- n(X).   n is p, z is a, s is f
 abbrev pub c : Program
 c = program (pred p 1 (clause (a ∷ []) goal.True 0 2 ∷ clause (f (Var 0) ∷ []) (goal.Call 0 (Var 0 ∷ [])) 1 3 ∷ []) [] ∷ []) [] (0 ∷ [])

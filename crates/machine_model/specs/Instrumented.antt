@@ -10,7 +10,7 @@ use Rattle.prog_data.specs.declared.programs.Pred.{Pred}
 use Rattle.prog_data.specs.declared.programs.Program.{Program}
 use Rattle.prog_data.specs.declared.tables.Status.{Status}
 use Rattle.prog_data.specs.declared.tables.Status.TheVariants as status
-use Rattle.machine_model.specs.Reading.{all_looks}
+use Rattle.machine_model.specs.Tests.{all_looks}
 
 -- whether a status is checked
 abbrev pub is_checked : Option Status → Bool

@@ -14,7 +14,7 @@ use Rattle.prog_data.specs.Values.{seen, AreIn}
 use Rattle.prog_data.specs.Conditions.{kind_of, calls_hold, post_holds}
 use Rattle.prog_data.specs.Goals.{called_by, parts_of, pred_of, meets_entry}
 use Rattle.machine_model.specs.State.{Item, Does, Exits, Frame, Choice, Mark, Doing, Failed, State}
-use Rattle.machine_model.specs.Reading.{Reading, every_condition}
+use Rattle.machine_model.specs.Tests.{Tests, every_condition}
 use Rattle.machine_model.specs.Step.{mark_of}
 use Rattle.machine_model.specs.Run.{Reaches, start_of}
 
@@ -54,19 +54,19 @@ module _ (program : Program) (bound : ℕ) (c : ℕ) (s : State) where
     at_not_fails : {pre : _} (p : ℕ) (args : List Term) (noted : List ℕ) (mark : Option ℕ) (exited : Bool) → IsExit s p args noted mark → HasMarked s mark c exited → Due (Some (Comp pre NotFails)) true
     at_failure : {pre : _} (conds : List ℕ) → IsFailure s conds false → Contains conds c → Due (Some (Comp pre NotFails)) false
 
--- a state that the run of a query that meets an entry reaches, by a reading
-pub record Reached (text : Bool → Term → List ℕ) (r : Reading) (program : Program) (bound : ℕ) (s : State) : Type 0 where
+-- a state that the run of a query that meets an entry reaches, by its tests
+pub record Reached (what : Tests) (program : Program) (bound : ℕ) (s : State) : Type 0 where
   pub query : Term
   pub pred : ℕ
   pub calls : called_by program query ≡ Some pred
   pub meets : meets_entry program pred (parts_of (out-Term query)) ≡ true
-  pub reaches : Reaches text r program bound (start_of pred query) s
+  pub reaches : Reaches what program bound (start_of pred query) s
 
 -- a point of a condition, and whether it holds there
-pub record Point (text : Bool → Term → List ℕ) (r : Reading) (program : Program) (c : ℕ) (is_held : Bool) : Type 0 where
+pub record Point (what : Tests) (program : Program) (c : ℕ) (is_held : Bool) : Type 0 where
   pub bound : ℕ
   pub state : State
-  pub reached : Reached text r program bound state
+  pub reached : Reached what program bound state
   pub due : Due program bound c state (kind_of program c) is_held
 
 -- what the status of a condition says of whether it holds at a point
@@ -75,17 +75,17 @@ Tells (Some status.Checked) is_held = is_held ≡ true
 Tells (Some status.False) is_held = is_held ≡ false
 Tells other is_held = Unit {0}
 
--- each status is true of each point, by a reading
-abbrev pub SoundBy : (Bool → Term → List ℕ) → Reading → Program → List Status → Type 0
-SoundBy text r program statuses = (c : ℕ) (is_held : Bool) → Point text r program c is_held → Tells (slice_get statuses c) is_held
+-- each status is true of each point, by its tests
+abbrev pub SoundBy : Tests → Program → List Status → Type 0
+SoundBy what program statuses = (c : ℕ) (is_held : Bool) → Point what program c is_held → Tells (slice_get statuses c) is_held
 
 -- each status is true of each point of the run that tests every condition
-abbrev pub Sound : (Bool → Term → List ℕ) → Program → List Status → Type 0
-Sound text program = SoundBy text (every_condition program) program
+abbrev pub Sound : Program → List Status → Type 0
+Sound program = SoundBy (every_condition program) program
 
 -- the table describes each call and each exit that a reached state is about to make
-pub record Described (text : Bool → Term → List ℕ) (program : Program) (table : Table) : Type 0 where
-  pub calls : (bound : ℕ) (s : State) (p : ℕ) (args : List Term) → Reached text (every_condition program) program bound s → IsCall bound s p args →
+pub record Described (program : Program) (table : Table) : Type 0 where
+  pub calls : (bound : ℕ) (s : State) (p : ℕ) (args : List Term) → Reached (every_condition program) program bound s → IsCall bound s p args →
       (row : _) × (slice_get table.rows p ≡ Some row) × IsTrue row.reached × AreIn program.grammar args (map seen row.entry)
-  pub exits : (bound : ℕ) (s : State) (p : ℕ) (args : List Term) (noted : List ℕ) (mark : Option ℕ) → Reached text (every_condition program) program bound s → IsExit s p args noted mark →
+  pub exits : (bound : ℕ) (s : State) (p : ℕ) (args : List Term) (noted : List ℕ) (mark : Option ℕ) → Reached (every_condition program) program bound s → IsExit s p args noted mark →
       (row : _) × (slice_get table.rows p ≡ Some row) × IsTrue row.exits × AreIn program.grammar args (map seen row.exit)

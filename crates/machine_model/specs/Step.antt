@@ -7,6 +7,7 @@ use Rattle.term_core.specs.declared.terms.Term.TheOpen as layer
 use Rattle.term_core.specs.declared.equations.Outcome.TheVariants.{Solved, Clash, Cyclic}
 use Rattle.term_core.specs.Terms.{higher, rename, numbered, same, is_ground, is_variable}
 use Rattle.term_core.specs.Unify.{Stage, Open, Ended, pairs, solve, values}
+use Rattle.term_core.specs.Printing.{Printed}
 use Rattle.prog_data.specs.declared.goals.Goal.{Goal, out-Goal}
 use Rattle.prog_data.specs.declared.goals.Goal as goal
 use Rattle.prog_data.specs.declared.goals.Goal.TheOpen.{Goal-F, True, Fail, Cut, Call as CallGoal, Builtin as BuiltinGoal, Conj, Disj, IfElse, Not, Exit}
@@ -17,7 +18,7 @@ use Rattle.prog_data.specs.declared.programs.Pred.{Pred}
 use Rattle.prog_data.specs.declared.programs.Place.{Place}
 use Rattle.prog_data.specs.declared.programs.Program.{Program}
 use Rattle.prog_data.specs.declared.events.Event.{Event}
-use Rattle.prog_data.specs.declared.events.Event.TheVariants.{Out, Answer}
+use Rattle.prog_data.specs.declared.events.Event.TheVariants.{Out, Answer, Broken}
 use Rattle.prog_data.specs.declared.events.Ending.TheVariants as ending
 use Rattle.prog_data.specs.declared.events.ArithKind.{ArithKind}
 use Rattle.prog_data.specs.Arithmetic.{Number, value}
@@ -25,7 +26,7 @@ use Rattle.prog_data.specs.Membership.{belongs}
 use Rattle.prog_data.specs.Conditions.{kind_of, calls_hold, pre_holds, post_holds, exit_breaks, failure_breaks}
 use Rattle.prog_data.specs.Goals.{goal_instance, pred_of, without_exit}
 use Rattle.machine_model.specs.State.{Item, Does, CutTo, Exits, Frame, Call, Choice, Resume, Try, Mark, Current, Doing, Solving, Failed, State, Phase, Going, Over, Trace, frame_instance, cut, choice_at, exit_mark}
-use Rattle.machine_model.specs.Reading.{Looks, Reading}
+use Rattle.machine_model.specs.Tests.{Tests}
 
 -- built-ins
 
@@ -62,7 +63,7 @@ abbrev pub is_atom : layer.Term-F Term → Bool
 is_atom (layer.Atom a) = true
 is_atom other = false
 
-module _ (text : Bool → Term → List ℕ) (program : Program) where
+module _ (program : Program) where
   -- what a built-in does, by its first two arguments
   abbrev pub effect : Builtin → Term → Term → Effect
   effect builtin.Unify a b = Equates a b
@@ -78,8 +79,8 @@ module _ (text : Bool → Term → List ℕ) (program : Program) where
   effect builtin.NumNotEq a b = compare (λ x y. not (int_eq x y)) a b
   effect builtin.Integer a b = truth (is_integer (out-Term a))
   effect builtin.Atom a b = truth (is_atom (out-Term a))
-  effect builtin.Write a b = Writes (text false (numbered a))
-  effect builtin.Writeq a b = Writes (text true (numbered a))
+  effect builtin.Write a b = Writes (Printed program.names program.ops false (numbered a))
+  effect builtin.Writeq a b = Writes (Printed program.names program.ops true (numbered a))
   effect builtin.Nl a b = Writes (10 ∷ [])
   effect (builtin.Belongs n) a b = truth (belongs program.grammar a n)
   effect builtin.IsVar a b = truth (is_variable (out-Term a))
@@ -100,20 +101,32 @@ telling e p = record { events = e ∷ []; tests = 0; phase = p }
 abbrev pub going : State → List Choice → Current → Phase
 going s cs now = Going (record s { choices = cs; current = now })
 
--- the first of the broken conditions ends the run; where there is none it goes on so
-abbrev pub after_tests : ℕ → List ℕ → Phase → Trace
-after_tests tests [] next = record { events = []; tests = tests; phase = next }
-after_tests tests (c ∷ cs) next = record { events = []; tests = tests; phase = Over (ending.Violated c) }
+-- tests
 
--- how many of these are looked at: those up to the first broken one
-abbrev pub looked_at : (ℕ → Bool) → List ℕ → ℕ
-looked_at breaks [] = 0
-looked_at breaks (c ∷ cs) = if breaks c then 1 else suc (looked_at breaks cs)
+-- what a test of a condition finds: that it holds, that it is broken, or that this is not known within the bound
+pub data Finding : Type 0 where
+  Holds : Finding
+  Breaks : Finding
+  Unknown : Finding
 
--- how many Pres are looked at: those of all notes and marks, where no calls condition is broken
-abbrev pub further_tests : List ℕ → Looks → ℕ
-further_tests [] looks = length looks.notes + length looks.marks
-further_tests (c ∷ cs) looks = 0
+-- a condition whose test has an answer holds or is broken
+abbrev pub finding : Bool → Finding
+finding true = Holds
+finding false = Breaks
+
+-- a test that counts so much and finds this of a condition, before what comes after it: a broken condition ends the run or is told
+abbrev pub after_test : (stops : Bool) → (counts : ℕ) → (cond : ℕ) → Finding → Trace → Trace
+after_test stops counts c Holds next = record next { tests = counts + next.tests }
+after_test true counts c Breaks next = record { events = []; tests = counts; phase = Over (ending.Violated c) }
+after_test false counts c Breaks next = record { events = Broken c ∷ next.events; tests = counts + next.tests; phase = next.phase }
+after_test stops counts c Unknown next = record { events = []; tests = counts; phase = Over ending.Bound }
+
+-- conditions are tested in order, and then this comes
+abbrev pub after_tests : (stops : Bool) → (counts : ℕ) → (ℕ → Finding) → List ℕ → Trace → Trace
+after_tests stops counts find [] next = next
+after_tests stops counts find (c ∷ cs) next = after_test stops counts c (find c) (after_tests stops counts find cs next)
+
+-- calls
 
 -- the frame with these items in place of its own
 abbrev pub frame_of : List Item → Frame → Frame
@@ -149,36 +162,33 @@ abbrev pub mark_of : Option ℕ → List Choice → Option Choice
 mark_of None cs = None
 mark_of (Some height) cs = choice_at height cs
 
-module _ (text : Bool → Term → List ℕ) (r : Reading) (program : Program) (bound : ℕ) where
-  -- a call that is made: the calls condition is tested, notes and a mark are taken, and the clauses become choices
+module _ (what : Tests) (program : Program) (bound : ℕ) where
+  -- a call that is made: the calls condition is tested, notes and a mark are taken, which counts a test for each Pre, and the clauses become choices
   abbrev pub call_made : State → ℕ → Pred → List Term → Frame → Trace
   call_made s p pred args rest =
       let kind : ℕ → _ = kind_of program in
       let g = program.grammar in
-      let looks = r.looks pred in
-      let broken : ℕ → Bool = λ c. not (calls_hold g args (kind c)) in
+      let looks = what.looks pred in
       let noted = filter (λ c. pre_holds g args (kind c)) looks.notes in
       let marked = filter (λ c. pre_holds g args (kind c)) looks.marks in
       let below = with_mark p marked s.choices in
       let call : Call = record { pred = p; args = args; noted = noted; mark = mark_height marked s.choices; height = length below; rest = rest } in
       let next = Going (record { calls = suc s.calls; fresh = s.fresh; choices = tries 0 pred.clauses call ++ below; current = Failed }) in
-      let failing = filter broken looks.calls in
-      after_tests (looked_at broken looks.calls + further_tests failing looks) failing next
+      after_tests what.stops 1 (λ c. finding (calls_hold g args (kind c))) looks.calls
+      (record { events = []; tests = length looks.notes + length looks.marks; phase = next })
 
   -- a call, which is made where the bound allows it
   abbrev pub call_step : State → ℕ → Pred → List Term → Frame → Trace
   call_step s p pred args rest = if nat_le bound s.calls then quietly (Over ending.Bound) else call_made s p pred args rest
 
-  -- an exit: its noted conditions and then those of its mark are tested
+  -- an exit: its noted conditions and then those of its mark are tested, of which the first count
   abbrev pub exit_step : State → ℕ → List Term → List ℕ → Option ℕ → Frame → Trace
   exit_step s p args noted mark rest =
       let kind : ℕ → _ = kind_of program in
-      let g = program.grammar in
-      let broken : ℕ → Bool = λ c. not (post_holds g args (kind c)) in
       let m = mark_of mark s.choices in
-      let broken_by_mark = filter (λ c. exit_breaks (mark_exited m) (kind c)) (mark_conds m) in
-      after_tests (looked_at broken noted) (filter broken noted ++ broken_by_mark)
-      (going s (exit_mark mark s.choices) (Doing rest))
+      after_tests what.stops 1 (λ c. finding (post_holds program.grammar args (kind c))) noted
+      (after_tests what.stops 0 (λ c. finding (not (exit_breaks (mark_exited m) (kind c)))) (mark_conds m)
+      (quietly (going s (exit_mark mark s.choices) (Doing rest))))
 
   -- what a built-in does, before the frame behind it
   abbrev pub builtin_step : State → Effect → ℕ → Place → Frame → Trace
@@ -195,7 +205,7 @@ module _ (text : Bool → Term → List ℕ) (r : Reading) (program : Program) (
   goal_step s Fail h place rest = quietly (going s s.choices Failed)
   goal_step s Cut h place rest = quietly (going s (cut h s.choices) (Doing rest))
   goal_step s (CallGoal p args) h place rest = call_step s p (pred_of program p) args rest
-  goal_step s (BuiltinGoal b args) h place rest = builtin_step s (effect text program b (slice_index_or args 0 (term.Atom 0)) (slice_index_or args 1 (term.Atom 0))) h place rest
+  goal_step s (BuiltinGoal b args) h place rest = builtin_step s (effect program b (slice_index_or args 0 (term.Atom 0)) (slice_index_or args 1 (term.Atom 0))) h place rest
   goal_step s (Conj a b) h place rest = quietly (going s s.choices (Doing (frame_of (Does a h place ∷ Does b h place ∷ rest.items) rest)))
   goal_step s (Disj a b) h place rest =
       quietly (going s (Resume (frame_of (Does b h place ∷ rest.items) rest) ∷ s.choices) (Doing (frame_of (Does a h place ∷ rest.items) rest)))
@@ -218,7 +228,7 @@ module _ (text : Bool → Term → List ℕ) (r : Reading) (program : Program) (
   abbrev pub entered : ℕ → Clause → Call → Frame
   entered base clause call =
       let body = goal_instance (higher base) (without_exit clause.body) in
-      let exit = if r.exits clause.body then Exits call.pred call.args call.noted call.mark ∷ call.rest.items else call.rest.items in
+      let exit = if what.exits clause.body then Exits call.pred call.args call.noted call.mark ∷ call.rest.items else call.rest.items in
       frame_of (Does body call.height clause.place ∷ exit) call.rest
 
   -- a clause of a call is tried: the arguments and the head, with new variables, become equations
@@ -238,7 +248,7 @@ module _ (text : Bool → Term → List ℕ) (r : Reading) (program : Program) (
   failure_step s (Resume f ∷ cs) = quietly (going s cs (Doing f))
   failure_step s (Try k call ∷ cs) = try_step s (slice_get (pred_of program call.pred).clauses k) call cs
   failure_step s (Mark p conds exited ∷ cs) =
-      after_tests 0 (filter (λ c. failure_breaks exited (kind_of program c)) conds) (going s cs Failed)
+      after_tests what.stops 0 (λ c. finding (not (failure_breaks exited (kind_of program c)))) conds (quietly (going s cs Failed))
 
   -- equations are solved before their frame goes on
   abbrev pub solving_step : State → Place → Stage → Frame → Trace

@@ -4,6 +4,7 @@ use Rattle.prog_data.specs.declared.grammars.Basic.TheVariants as basic
 use Rattle.prog_data.specs.declared.grammars.Rule.TheVariants.{Basic, Atom, Node, Unit as UnitRule}
 use Rattle.prog_data.specs.declared.grammars.Grammar.{Grammar}
 use Rattle.term_core.specs.declared.fixed.TheConstants.{NIL, CELL}
+use Rattle.prog_data.specs.declared.basic_names.TheConstants.{TERM_TYPE, INT_TYPE, LIST_TYPE}
 
 -- the names 0 to 9: term, int, nnegint, num, atm, gnd, constant, struct, callable and list
 abbrev pub basic_grammar : Grammar
@@ -12,12 +13,12 @@ basic_grammar = record {
       (Basic basic.Term ∷ []) ∷
       (Basic basic.Int ∷ []) ∷
       (Basic basic.Nnegint ∷ []) ∷
-      (UnitRule 1 ∷ []) ∷
+      (UnitRule INT_TYPE ∷ []) ∷
       (Basic basic.Atm ∷ []) ∷
       (Basic basic.Gnd ∷ []) ∷
       (Basic basic.Int ∷ Basic basic.Atm ∷ []) ∷
       (Basic basic.Struct ∷ []) ∷
       (Basic basic.Atm ∷ Basic basic.Struct ∷ []) ∷
-      (Atom NIL ∷ Node CELL (0 ∷ 9 ∷ []) ∷ []) ∷
+      (Atom NIL ∷ Node CELL (TERM_TYPE ∷ LIST_TYPE ∷ []) ∷ []) ∷
       [];
 }

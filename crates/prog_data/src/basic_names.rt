@@ -6,7 +6,7 @@ ghost use Rattle.prog_data.specs.GrammarRange.{IsGrammar};
 use crate::{Basic, Grammar, Rule};
 use sqlite_items::Items;
 use std::alloc::Global;
-use term_core::NoMemory;
+use term_core::{CELL, NIL, NoMemory};
 
 /// The grammar name term.
 pub const TERM_TYPE: u64 = 0;
@@ -56,23 +56,23 @@ fn two_rules(alloc: Global, first: Rule, second: Rule) -> Result<Items<Rule>, No
     Ok(rules)
 }
 
-// The cells whose first argument is any term and whose second one belongs to the name 9, the lists.
+// The cells whose first argument is any term and whose second one is a list.
 fn cell_rule(alloc: Global) -> Result<Rule, NoMemory>
-    ensures { IfOk result (λ rule. rule ≡ Rule.Node 1 (0 ∷ 9 ∷ [])) }
+    ensures { IfOk result (λ rule. rule ≡ Rule.Node CELL (TERM_TYPE ∷ LIST_TYPE ∷ [])) }
 {
-    let names = Items::from_slice(alloc, &[0, 9])?;
-    Ok(Rule::Node(1, names))
+    let names = Items::from_slice(alloc, &[TERM_TYPE, LIST_TYPE])?;
+    Ok(Rule::Node(CELL, names))
 }
 
 // The names 0 to 4: term, int, nnegint, num and atm.
 fn first_names(alloc: Global) -> Result<Items<Items<Rule>>, NoMemory>
-    ensures { IfOk result (λ rules. rules ≡ (Rule.Basic Basic.Term ∷ []) ∷ (Rule.Basic Basic.Int ∷ []) ∷ (Rule.Basic Basic.Nnegint ∷ []) ∷ (Rule.Unit 1 ∷ []) ∷ (Rule.Basic Basic.Atm ∷ []) ∷ []) }
+    ensures { IfOk result (λ rules. rules ≡ (Rule.Basic Basic.Term ∷ []) ∷ (Rule.Basic Basic.Int ∷ []) ∷ (Rule.Basic Basic.Nnegint ∷ []) ∷ (Rule.Unit INT_TYPE ∷ []) ∷ (Rule.Basic Basic.Atm ∷ []) ∷ []) }
 {
     let mut rules = Items::new(alloc);
     rules.push(one_rule(alloc, Rule::Basic(Basic::Term))?)?;
     rules.push(one_rule(alloc, Rule::Basic(Basic::Int))?)?;
     rules.push(one_rule(alloc, Rule::Basic(Basic::Nnegint))?)?;
-    rules.push(one_rule(alloc, Rule::Unit(1))?)?;
+    rules.push(one_rule(alloc, Rule::Unit(INT_TYPE))?)?;
     rules.push(one_rule(alloc, Rule::Basic(Basic::Atm))?)?;
     Ok(rules)
 }
@@ -88,7 +88,7 @@ pub fn basic_grammar(alloc: Global) -> Result<Grammar, NoMemory>
     rules.push(two_rules(alloc, Rule::Basic(Basic::Int), Rule::Basic(Basic::Atm))?)?;
     rules.push(one_rule(alloc, Rule::Basic(Basic::Struct))?)?;
     rules.push(two_rules(alloc, Rule::Basic(Basic::Atm), Rule::Basic(Basic::Struct))?)?;
-    let list = two_rules(alloc, Rule::Atom(0), cell_rule(alloc)?)?;
+    let list = two_rules(alloc, Rule::Atom(NIL), cell_rule(alloc)?)?;
     rules.push(list)?;
     Ok(Grammar { rules })
 }

@@ -64,4 +64,6 @@ pub enum Event {
     /// The query's instance, its variables numbered from 1 by first appearance.
     Answer(Term),
     End(Ending),
+    /// The condition with this number is broken, and the run goes on.
+    Broken(u64),
 }

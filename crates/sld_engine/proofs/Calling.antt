@@ -1,6 +1,6 @@
 -- The calls that are made, and the way back.
-use Rattle.std.proofs.Common.{◌≡◌, ℕ, suc, ◌+◌, ◌<◌, ◌≤◌, Some, true, false, List, [], ◌∷◌, ◌++◌, length, refl, sym, ap, subst, ◌∙◌, arith}
-use Rattle.std.specs.Prelude.{nat_le, find}
+use Rattle.std.proofs.Common.{◌≡◌, ℕ, suc, ◌+◌, ◌<◌, ◌≤◌, Some, None, true, false, List, [], ◌∷◌, ◌++◌, length, refl, sym, ap, subst, ◌∙◌, arith}
+use Rattle.std.specs.Prelude.{nat_le}
 use Rattle.std.proofs.lemmas.Bool.Decides.{nat_tests}
 use Rattle.term_core.specs.declared.terms.Term.{Term}
 use Rattle.prog_data.specs.declared.goals.Goal as goal
@@ -20,16 +20,15 @@ use Rattle.sld_engine.specs.declared.calls.Back.TheVariants as back
 use Rattle.sld_engine.specs.Built.{is_built}
 use Rattle.sld_engine.specs.Views.{as_choice, as_choices, as_state, are_built_items, is_built_choice, are_built_choices}
 use Rattle.sld_engine.specs.Parts.{Alike, Retries, IsBuiltAttempt, attempt_phase, GoesBack, MakesCall, Refuses}
-use Rattle.sld_engine.specs.Testing.{is_broken_at_call, broken_at_call, noted_at_call}
+use Rattle.sld_engine.specs.Testing.{broken_at_call, noted_at_call}
 use Rattle.sld_engine.proofs.Alikes.{alike_itself, alike_then}
 use Rattle.sld_engine.proofs.Builts.{and_first, and_second, built_tries}
-use Rattle.sld_engine.proofs.Filters.{found_first}
 use Rattle.sld_engine.proofs.Lists.{choices_snoc, choices_length}
 use Rattle.sld_engine.proofs.Steps.{state, plain_call, bound_alike, made_alike, broken_call_alike, exhausted_alike}
 
 -- a call that is made
 pub makes_call : (program : Program) (bound p height : ℕ) (args : List Term) (rest : Frame) (calls fresh : ℕ) (old new : List stack.Try) →
-    is_built program ≡ true → calls < bound → broken_at_call program args p ≡ [] → are_built_choices (as_choices old) ≡ true → are_built_items rest.items ≡ true → height ≡ length old →
+    is_built program ≡ true → calls < bound → broken_at_call program args p ≡ None → are_built_choices (as_choices old) ≡ true → are_built_items rest.items ≡ true → height ≡ length old →
     as_choices new ≡ tries 0 (pred_of program p).clauses (plain_call p args (noted_at_call program args p) height rest) ++ as_choices old →
     MakesCall program bound p args rest (record { calls = calls; fresh = fresh; choices = old }) (record { calls = calls + 1; fresh = fresh; choices = new })
 makes_call program bound p height args rest calls fresh old new built less unbroken choices items is_height is_new =
@@ -51,11 +50,10 @@ refuses_bound program bound calls p args le fresh choices rest =
     bound_alike program bound calls fresh choices rest.items rest.query p args is_le
 
 -- the first condition that a call breaks
-pub refuses_broken : (program : Program) (bound calls p : ℕ) (args : List Term) (c : ℕ) → calls < bound → find (is_broken_at_call program args) (pred_of program p).conds ≡ Some c → Refuses program bound calls p args (Some (ending.Violated c))
+pub refuses_broken : (program : Program) (bound calls p : ℕ) (args : List Term) (c : ℕ) → calls < bound → broken_at_call program args p ≡ Some c → Refuses program bound calls p args (Some (ending.Violated c))
 refuses_broken program bound calls p args c less found fresh choices rest =
     let not_le : nat_le bound calls ≡ false = grind (arith, nat_tests) in
-    let first = found_first (is_broken_at_call program args) (pred_of program p).conds c found in
-    broken_call_alike program bound calls fresh choices rest.items rest.query p args not_le c first.0 first.1
+    broken_call_alike program bound calls fresh choices rest.items rest.query p args not_le c found
 
 -- what the loop of `go_back` keeps
 pub record Backs (program : Program) (first now : Machine) : Type 0 where

@@ -1,5 +1,4 @@
 pub mod Alikes
-pub mod Belonging
 pub mod Bindings
 pub mod Builts
 pub mod Calling
@@ -9,6 +8,7 @@ pub mod Lists
 pub mod PairLemmas
 pub mod Reducing
 pub mod Simplifying
+pub mod Starting
 pub mod Steps
 pub mod Telling
 pub mod Trying

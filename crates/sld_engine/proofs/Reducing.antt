@@ -14,7 +14,6 @@ use Rattle.sld_engine.specs.declared.frames.Head.TheVariants as head
 use Rattle.sld_engine.specs.Built.{is_built_goal}
 use Rattle.sld_engine.specs.Testing.{is_broken_at_exit}
 use Rattle.sld_engine.specs.Views.{are_built_items}
-use Rattle.sld_engine.proofs.Filters.{found_first, found_none}
 use Rattle.sld_engine.specs.Parts.{Alike, Reduces, Takes, items_phase, items_size, goal_size_step}
 use Rattle.sld_engine.proofs.Alikes.{alike_itself, alike_then}
 use Rattle.sld_engine.proofs.Builts.{and_first, and_second, and_both, built-Conj}
@@ -23,7 +22,7 @@ use Rattle.sld_engine.proofs.Steps.{state, frame, true_alike, conj_alike, exit_a
 -- an exit that breaks no condition is done
 pub takes_exit : (program : Program) (rest : List Item) (p : ℕ) (args : List Term) (noted : List ℕ) → are_built_items (Exits p args noted None ∷ rest) ≡ true → find (is_broken_at_exit program args) noted ≡ None → Takes program (Exits p args noted None ∷ rest) None rest
 takes_exit program rest p args noted built found = record {
-  leads = λ bound calls fresh choices query. exit_alike program bound calls fresh choices rest query p args noted (found_none (is_broken_at_exit program args) noted found);
+  leads = λ bound calls fresh choices query. exit_alike program bound calls fresh choices rest query p args noted found;
   built = built;
   lighter = omega arith;
 }
@@ -31,9 +30,8 @@ takes_exit program rest p args noted built found = record {
 -- an exit that breaks a condition
 pub takes_broken : (program : Program) (rest : List Item) (p : ℕ) (args : List Term) (noted : List ℕ) (c : ℕ) → are_built_items (Exits p args noted None ∷ rest) ≡ true → find (is_broken_at_exit program args) noted ≡ Some c → Takes program (Exits p args noted None ∷ rest) (Some (head.Breaks c)) rest
 takes_broken program rest p args noted c built found =
-    let first = found_first (is_broken_at_exit program args) noted c found in
     record {
-      leads = λ bound calls fresh choices query. broken_exit_alike program bound calls fresh choices rest query p args noted c first.0 first.1;
+      leads = λ bound calls fresh choices query. broken_exit_alike program bound calls fresh choices rest query p args noted c found;
       built = built;
       lighter = omega arith;
     }

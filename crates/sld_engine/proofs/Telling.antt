@@ -1,5 +1,6 @@
 -- From one event to the next.
 use Rattle.std.proofs.Common.{◌≡◌, ℕ, ◌-◌, ◌<◌, true, List, Option, Some, Result, Ok, Err, IfOk, refl, sym, ap, subst, ◌∙◌, arith}
+use Rattle.std.specs.Prelude.{option_map}
 use Rattle.term_core.specs.declared.terms.Term.{Term}
 use Rattle.term_core.specs.declared.memory.NoMemory.{NoMemory}
 use Rattle.term_core.specs.Terms.{numbered}
@@ -8,6 +9,7 @@ use Rattle.prog_data.specs.declared.events.Event.TheVariants as event
 use Rattle.prog_data.specs.declared.events.Ending.{Ending}
 use Rattle.prog_data.specs.declared.events.Ending.TheVariants as ending
 use Rattle.machine_model.specs.State.{Doing, Failed, Phase, Going, Over}
+use Rattle.machine_model.specs.Continues.{at_phase}
 use Rattle.sld_engine.specs.declared.frames.Item as item
 use Rattle.sld_engine.specs.declared.frames.Frame as code
 use Rattle.sld_engine.specs.declared.frames.Head.{Head}
@@ -103,4 +105,11 @@ told_again program bound e t is = told_over program bound (Over e) e t (alike_it
 pub has_told : (old new : Run) (s : Stage) (p : Phase) (t told : Told) → old.stage ≡ s → as_phase s ≡ Some p → IsTold (program_of old) (bound_of old) p t → told ≡ t → new.stage ≡ told.stage → HasTold old told.event new
 has_told old new s p t told is_old is_s n is_told is_new =
     let m = subst (IsTold (program_of old) (bound_of old) p) (sym is_told) n in
-    record { before = p; after = m.new; was = ap as_phase is_old ∙ is_s; is = ap as_phase is_new ∙ m.is; next = m.next.told }
+    record {
+      before = at_phase p;
+      after = at_phase m.new;
+      was = ap (option_map at_phase) (ap as_phase is_old ∙ is_s);
+      is = ap (option_map at_phase) (ap as_phase is_new ∙ m.is);
+      made = m.next.made;
+      next = m.next.told;
+    }

@@ -1,6 +1,4 @@
-pub mod Belonging
 pub mod Built
-pub mod Continues
 pub mod Moves
 pub mod Parts
 pub mod Runs

@@ -1,5 +1,5 @@
 -- What the parts of the engine do.
-use Rattle.std.specs.Prelude.{◌≡◌, ℕ, ◌+◌, ◌<◌, suc, Bool, true, List, [], ◌∷◌, map, Option, None, Some}
+use Rattle.std.specs.Prelude.{◌≡◌, ℕ, ◌+◌, ◌<◌, suc, true, List, [], ◌∷◌, map, Option, None, Some}
 use Rattle.term_core.specs.declared.terms.Term.{Term}
 use Rattle.term_core.specs.declared.equations.Outcome.{Outcome}
 use Rattle.term_core.specs.declared.equations.Outcome.TheVariants.{Solved, Clash, Cyclic}
@@ -15,8 +15,9 @@ use Rattle.prog_data.specs.declared.events.Ending.{Ending}
 use Rattle.prog_data.specs.declared.events.Ending.TheVariants as ending
 use Rattle.prog_data.specs.Goals.{goal_instance}
 use Rattle.machine_model.specs.State.{Item, Does, Exits, Frame, Call, Choice, Doing, Failed, Phase, Going, Over, frame_instance}
-use Rattle.machine_model.specs.Reading.{every_condition}
+use Rattle.machine_model.specs.Tests.{every_condition}
 use Rattle.machine_model.specs.Run.{nowhere}
+use Rattle.machine_model.specs.Continues.{at_phase, Leads, IsNext}
 use Rattle.sld_engine.specs.declared.frames.Head.{Head}
 use Rattle.sld_engine.specs.declared.frames.Head.TheVariants as head
 use Rattle.sld_engine.specs.declared.tries.Attempt.{Attempt}
@@ -27,17 +28,17 @@ use Rattle.sld_engine.specs.declared.calls.Back.{Back}
 use Rattle.sld_engine.specs.declared.calls.Back.TheVariants as back
 use Rattle.sld_engine.specs.declared.stages.Told.{Told}
 use Rattle.sld_engine.specs.Testing.{broken_at_call}
-use Rattle.sld_engine.specs.Continues.{Continues, IsNext}
 use Rattle.sld_engine.specs.Views.{as_items, as_frame, as_choices, as_state, as_phase, are_built_items, are_built_choices, is_built_stage}
 
--- what comes from the one phase on is what comes from the other one on
+-- the old phase leads to the new one, and no event comes before, with some number of tests
 pub record Alike (program : Program) (bound : ℕ) (old new : Phase) : Type 0 where
-  pub forth : (text : Bool → Term → List ℕ) (events : List Event) (e : Ending) → Continues text (every_condition program) program bound new events e → Continues text (every_condition program) program bound old events e
-  pub back : (text : Bool → Term → List ℕ) (events : List Event) (e : Ending) → Continues text (every_condition program) program bound old events e → Continues text (every_condition program) program bound new events e
+  pub made : ℕ
+  pub leads : Leads (every_condition program) program bound (at_phase old) [] made (at_phase new)
 
--- the event that comes next, and the phase after it, whatever the text of written terms
+-- the event that comes next, with some number of tests, and the phase after it
 pub record Next (program : Program) (bound : ℕ) (old : Phase) (event : Event) (new : Phase) : Type 0 where
-  pub told : (text : Bool → Term → List ℕ) → IsNext text (every_condition program) program bound old event new
+  pub made : ℕ
+  pub told : IsNext (every_condition program) program bound (at_phase old) event made (at_phase new)
 
 -- the run goes on with these items
 abbrev pub items_phase : ℕ → ℕ → List Choice → Term → List Item → Phase
@@ -138,7 +139,7 @@ pub record GoesBack (program : Program) (old : Machine) (b : Back) (new : Machin
 abbrev pub Refuses : Program → ℕ → ℕ → ℕ → List Term → Option Ending → Type 0
 Refuses program bound calls p args (Some e) =
     (fresh : ℕ) (choices : List Choice) (rest : Frame) → Alike program bound (items_phase calls fresh choices rest.query (Does (goal.Call p args) 0 nowhere ∷ rest.items)) (Over e)
-Refuses program bound calls p args None = (calls < bound) × (broken_at_call program args p ≡ [])
+Refuses program bound calls p args None = (calls < bound) × (broken_at_call program args p ≡ None)
 
 -- a machine made a call before the frame behind it
 pub record MakesCall (program : Program) (bound p : ℕ) (args : List Term) (rest : Frame) (old new : Machine) : Type 0 where

@@ -1,17 +1,9 @@
 -- What the engine tests at calls and exits.
-use Rattle.std.specs.Prelude.{ℕ, Bool, false, not, List, filter, Option, Some}
+use Rattle.std.specs.Prelude.{ℕ, Bool, not, ◌&&◌, List, filter, find, Option}
 use Rattle.term_core.specs.declared.terms.Term.{Term}
-use Rattle.prog_data.specs.declared.conditions.CondKind.{CondKind}
-use Rattle.prog_data.specs.declared.conditions.CondKind.TheVariants.{Success}
-use Rattle.prog_data.specs.declared.grammars.Grammar.{Grammar}
 use Rattle.prog_data.specs.declared.programs.Program.{Program}
-use Rattle.prog_data.specs.Conditions.{all_hold, kind_of, calls_hold, post_holds}
+use Rattle.prog_data.specs.Conditions.{kind_of, is_success, calls_hold, pre_holds, post_holds}
 use Rattle.prog_data.specs.Goals.{pred_of}
-
--- whether Pre of a success condition holds
-abbrev pub success_pre_holds : Grammar → List Term → Option CondKind → Bool
-success_pre_holds g args (Some (Success pre post)) = all_hold g args pre
-success_pre_holds g args other = false
 
 module _ (program : Program) (args : List Term) where
   -- whether a call with these arguments breaks the condition
@@ -22,13 +14,13 @@ module _ (program : Program) (args : List Term) where
   abbrev pub is_broken_at_exit : ℕ → Bool
   is_broken_at_exit c = not (post_holds program.grammar args (kind_of program c))
 
-  -- whether a call with these arguments notes the condition
+  -- whether a call with these arguments notes the condition: a success condition whose Pre holds
   abbrev pub is_noted : ℕ → Bool
-  is_noted c = success_pre_holds program.grammar args (kind_of program c)
+  is_noted c = is_success (kind_of program c) && pre_holds program.grammar args (kind_of program c)
 
-  -- the conditions that a call of a predicate breaks
-  abbrev pub broken_at_call : ℕ → List ℕ
-  broken_at_call p = filter is_broken_at_call (pred_of program p).conds
+  -- the first condition of a predicate that a call breaks
+  abbrev pub broken_at_call : ℕ → Option ℕ
+  broken_at_call p = find is_broken_at_call (pred_of program p).conds
 
   -- the conditions that a call of a predicate notes
   abbrev pub noted_at_call : ℕ → List ℕ

@@ -3,8 +3,8 @@ ghost use Rattle.std.specs.Prelude.{◌≡◌};
 ghost use Rattle.std.specs.List.{list_all};
 ghost use Rattle.sld_engine.specs.Built.{is_built_goal, is_not_comp, is_built_pred, is_built};
 
-use crate::conditions::is_comp;
 use prog_data::{Goal, Pred, Program};
+use prop_check::is_comp;
 
 // Whether a goal has only true, calls and conjunctions.
 fn is_built_goal(goal: &Goal) -> bool

@@ -1,5 +1,5 @@
 // The calls that are made, and the way back to those before.
-ghost use Rattle.std.specs.Prelude.{◌≡◌, ◌++◌, ◌<◌, true, [], IfOk, OnOk};
+ghost use Rattle.std.specs.Prelude.{◌≡◌, ◌++◌, ◌<◌, true, None, IfOk, OnOk};
 ghost use Rattle.machine_model.specs.Step.{tries};
 ghost use Rattle.sld_engine.specs.Built.{is_built};
 ghost use Rattle.sld_engine.specs.Views.{as_frame, as_items, as_call, as_choices, are_built_items, are_built_choices};
@@ -81,7 +81,7 @@ impl Machine {
     ) -> Result<(), NoMemory>
         requires program { is_built program.now ≡ true }
         requires bound { self.old.calls < bound }
-        requires unbroken { broken_at_call program.now args pred ≡ [] }
+        requires unbroken { broken_at_call program.now args pred ≡ None }
         requires choices { are_built_choices (as_choices self.old.choices) ≡ true }
         requires rest { are_built_items (as_items rest.items) ≡ true }
         ensures { OnOk result (MakesCall program.now bound pred args (as_frame rest) self.old self.new) }

@@ -7,7 +7,6 @@ mod conditions;
 mod events;
 mod frames;
 mod instances;
-mod membership;
 mod run;
 mod shared;
 mod stages;
@@ -16,6 +15,3 @@ mod unify;
 
 pub use built::is_built;
 pub use run::Run;
-
-#[cfg(test)]
-mod tests;

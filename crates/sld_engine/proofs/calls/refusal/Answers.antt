@@ -3,7 +3,6 @@ use Rattle.std.specs.Prelude.{find}
 use Rattle.prog_data.specs.Goals.{pred_of}
 use Rattle.sld_engine.specs.Testing.{is_broken_at_call}
 use Rattle.sld_engine.proofs.Calling.{refuses_bound, refuses_broken}
-use Rattle.sld_engine.proofs.Filters.{found_none}
 use Rattle.sld_engine.proofs.calls.refusal.Goals as goal
 
 pub returns-then-calls-bound : goal.returns-then-calls-bound
@@ -19,4 +18,4 @@ returns-in-Some c =
 pub returns-in-None : goal.returns-in-None
 returns-in-None c =
     let test = is_broken_at_call c.args.program.now c.args.args.now in
-    (omega (arith, c.if-calls-bound.false), found_none test (pred_of c.args.program.now c.args.pred).conds (ap (find test) (sym c.conditions_of.ensures) ∙ sym c.in-None.ensures))
+    (omega (arith, c.if-calls-bound.false), ap (find test) (sym c.conditions_of.ensures) ∙ sym c.in-None.ensures)

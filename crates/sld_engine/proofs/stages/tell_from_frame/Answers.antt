@@ -1,4 +1,4 @@
-use Rattle.sld_engine.proofs.Telling.{told_answer, told_broken, told_refused, told_end, comes_on}
+use Rattle.sld_engine.proofs.Telling.{comes_start, told_answer, told_broken, told_refused, told_end, comes_on}
 use Rattle.sld_engine.proofs.stages.tell_from_frame.Goals as goal
 
 pub returns-in-Answer : goal.returns-in-Answer
@@ -25,3 +25,6 @@ pub returns-in-Ends : goal.returns-in-Ends
 returns-in-Ends c =
     told_end c.args.program.now c.args.bound _ c.calls.machine c.calls.frame c.calls.invariant c.in_ok-reduce.field-0 c.reduce.new.items c.in_ok-reduce.ensures.reduces
     c.in-Call.pred c.in-Call.args c.in-Call.is c.make_call.new.self c.in_ok-make_call-in-Call.ensures c.in_ok-next-in-Call.field-0 c.go_back.new.self c.in_ok-next-in-Call.ensures c.in-Ends.ending c.in-Ends.is c.ended-in-Ends.result c.ended-in-Ends.ensures
+
+pub calls-init : goal.calls-init
+calls-init c = comes_start c.args.program.now c.args.bound c.args.machine c.args.frame c.requires.choices c.requires.items

@@ -1,7 +1,0 @@
-use Rattle.std.proofs.Common.{◌≡◌, drop}
-use Rattle.std.specs.List.{list_any}
-use Rattle.prog_data.specs.Conditions.{all_hold}
-use Rattle.sld_engine.proofs.conditions.any_holds.Given as goal
-
-abbrev pub invariant-loop-disjunct : goal.invariant-loop-disjunct
-invariant-loop-disjunct l = list_any (all_hold l.grammar l.args) (drop l.disjunct-index l.disjuncts) ≡ list_any (all_hold l.grammar l.args) l.disjuncts

@@ -1,6 +1,0 @@
-use Rattle.std.proofs.Common.{[], sym}
-use Rattle.sld_engine.proofs.Lists.{absent_index}
-use Rattle.sld_engine.proofs.membership.rules_of.Goals as goal
-
-pub returns-in-None : goal.returns-in-None
-returns-in-None c = sym (absent_index c.args.grammar.now.rules c.args.name [] (sym c.in-None.ensures.value))
