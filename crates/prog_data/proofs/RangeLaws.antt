@@ -10,7 +10,6 @@ use Rattle.term_core.specs.Names.{IsPrefix}
 use Rattle.term_core.specs.Ranges.{has_names, IsInRange, RangesStay}
 use Rattle.term_core.specs.Terms.{instance, instance_step, above}
 use Rattle.term_core.specs.declared.terms.Term.{Term, out-Term}
-use Rattle.term_core.specs.declared.terms.Term.TheOpen as term_layer
 use Rattle.term_core.specs.declared.terms.Term.TheVariants.{outs-Var, outs-Int, outs-Atom, outs-Node}
 use Rattle.term_core.proofs.TermFolds.{fold-Atom as term-Atom, ind_terms}
 use Rattle.prog_data.specs.declared.conditions.Cond.{Cond}
