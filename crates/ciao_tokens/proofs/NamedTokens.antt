@@ -74,6 +74,6 @@ pub tokens_named : TokensAreNamed
 tokens_named bytes before after ts has = (
   subst (IsPrefix before) (sym has.named) (front_names before (words has.pieces)),
   subst (AreNamedBelow (length after)) (sym has.are)
-  (pieces_named after has.pieces (start_of bytes) (without_mark bytes)
-  (subst (λ all. AllByRecursion (λ word. place_of word all < length all) (words has.pieces)) (sym has.named) (all_within before (words has.pieces)))),
+      (pieces_named after has.pieces (start_of bytes) (without_mark bytes)
+      (subst (λ all. AllByRecursion (λ word. place_of word all < length all) (words has.pieces)) (sym has.named) (all_within before (words has.pieces)))),
 )

@@ -19,6 +19,7 @@ mod words;
 
 pub use kinds::{TextFault, Token, TokenKind};
 pub use laws::{
-    every_text_law, named_tokens_law, one_cut_law, one_fault_law, order_law, six_ways_law, written_law,
+    every_text_law, named_tokens_law, one_cut_law, one_fault_law, order_law, six_ways_law,
+    written_law,
 };
 pub use scanner::tokens;
