@@ -1,8 +1,9 @@
 // The reader: tokens cut into sentences, each read with the operators that those before it leave.
 ghost use Rattle.std.specs.Prelude.{◌≡◌, ◌+◌, true, false, IfOk, IfErr, MatchOption, MatchResult, IfSome, Some, List, ◌<◌, length, take, drop};
-ghost use Rattle.std.specs.List.{list_any};
+ghost use Rattle.std.specs.List.{list_any, AllByRecursion};
 ghost use Rattle.ciao_reader.specs.Sentences.{ends, is_end, line_of, is_large, is_sign, large_line, Splits, IsAlone, IsSentence, ReadsAll, IsGoal, HasSentences, HasGoal};
 ghost use Rattle.ciao_reader.specs.Faults.{IsUnreadOr, IsWrongOr, FirstFaultOr, FailsAsGoalOr, as_read, IsFaultOf, IsGoalFaultOf};
+ghost use Rattle.ciao_reader.specs.Ranges.{IsSentenceInRange};
 ghost use Rattle.ciao_reader.specs.Changes.{table_after};
 ghost use Rattle.term_core.specs.Standard.{standard};
 ghost use Rattle.term_core.specs.Lists.{IsPrefix};
@@ -11,6 +12,7 @@ ghost use Rattle.term_core.specs.declared.terms.Term.{Term};
 ghost use Rattle.ciao_reader.specs.ReadingBack.{is_readable, numbered_from_zero, IsShallow};
 
 use crate::changes::after_sentence;
+use crate::laws::in_range_law;
 use crate::parts::DEPTH_LIMIT;
 use crate::reading::read_words;
 use crate::scan::roles;
@@ -203,6 +205,19 @@ fn read_alone(
 /// where memory is refused.
 pub fn read_sentences(alloc: Global, names: &mut Names, bytes: &[u8]) -> Result<Source, ReadFault>
     ensures ok { IfOk result (HasSentences bytes.now names.old names.new) }
+    ensures in_range { IfOk result (λ source. AllByRecursion (IsSentenceInRange (length names.new)) source.sentences) }
+    ensures fault { IfErr result (IsFaultOf bytes.now names.old) }
+    ensures kept { IsPrefix names.old names.new }
+{
+    // Each says what holds of all: of names, of what is read.
+    let _ = names.len();
+    in_range_law();
+    read_source(alloc, names, bytes)
+}
+
+// All sentences of a text.
+fn read_source(alloc: Global, names: &mut Names, bytes: &[u8]) -> Result<Source, ReadFault>
+    ensures ok { IfOk result (HasSentences bytes.now names.old names.new) }
     ensures fault { IfErr result (IsFaultOf bytes.now names.old) }
     ensures kept { IsPrefix names.old names.new }
 {
@@ -225,14 +240,16 @@ pub fn read_goal(
     text: &str,
 ) -> Result<Sentence, ReadFault>
     ensures ok { IfOk result (HasGoal ops.now text.now names.old names.new) }
+    ensures in_range { IfOk result (IsSentenceInRange (length names.new)) }
     ensures fault { IfErr result (IsGoalFaultOf ops.now text.now names.old) }
     ensures kept { IsPrefix names.old names.new }
     ensures reads_back { (t : Term) → is_readable (length names.old) t ≡ true → text.now ≡ Printed names.old ops.now true t → IsShallow ops.now text.now names.old → MatchResult result (λ goal. goal.term ≡ numbered_from_zero t) (λ fault. fault ≡ ReadFault.NoMemory) }
 {
-    // Each says what holds of all: of names, of tables of operators, of what is written.
+    // Each says what holds of all: of names, of tables of operators, of what is written, of what is read.
     let _ = names.len();
     ops.made();
     written_law();
+    in_range_law();
     read_text(alloc, names, ops, text)
 }
 

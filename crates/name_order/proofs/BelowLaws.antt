@@ -13,7 +13,8 @@ use Rattle.prog_data.specs.GrammarRange.{IsGrammar}
 use Rattle.prog_data.specs.Membership.{leaves, is_leaf}
 use Rattle.prog_data.proofs.Leaves.{In, here, later, any_in, in_any, leaf_of}
 use Rattle.name_order.specs.Fixpoints.{ConsistentTest, ClosedTest, Within}
-use Rattle.name_order.specs.Relations.{gnd, Pair, is_name, are_names, leaf_has, has_member, below, full_leaves, each_pair, basic_below, below_of_node, leaf_below, below_rule, basic_meets, leaf_meets, meets_rule, HasGnd, HasTerm, names_below}
+use Rattle.prog_data.specs.declared.basic_names.TheConstants.{GND_TYPE}
+use Rattle.name_order.specs.Relations.{Pair, is_name, are_names, leaf_has, has_member, below, full_leaves, each_pair, basic_below, below_of_node, leaf_below, below_rule, basic_meets, leaf_meets, meets_rule, HasGnd, HasTerm, names_below}
 use Rattle.name_order.specs.Laws.{BelowReflexive, BelowTransitive, MeetsSymmetric, EmptyBelowAll}
 use Rattle.name_order.proofs.FixpointLaws.{and_left, and_right, and_both, clash, not_true, not_false, not_not_true}
 use Rattle.name_order.proofs.MemberLaws.{int_passes, atom_passes}
@@ -193,11 +194,11 @@ module _ (r s : Pair → Bool) (wide : Within r s) (chain : (x y z : ℕ) → r 
   basic_chain basic.Struct basic.Struct c e f = f
   basic_chain a b c e f = cc
 
-  all_chain : (ns ms : List ℕ) → each_pair r ns ms ≡ true → list_all (λ m. r (m, gnd)) ms ≡ true → list_all (λ n. s (n, gnd)) ns ≡ true
+  all_chain : (ns ms : List ℕ) → each_pair r ns ms ≡ true → list_all (λ m. r (m, GND_TYPE)) ms ≡ true → list_all (λ n. s (n, GND_TYPE)) ns ≡ true
   all_chain [] [] e f = refl
   all_chain [] (m ∷ ms) e f = cc
   all_chain (n ∷ ns) [] e f = cc
-  all_chain (n ∷ ns) (m ∷ ms) e f = and_both (s (n, gnd)) _ (chain n m gnd (and_left _ _ e) (and_left _ _ f)) (all_chain ns ms (and_right (r (n, m)) _ e) (and_right (r (m, gnd)) _ f))
+  all_chain (n ∷ ns) (m ∷ ms) e f = and_both (s (n, GND_TYPE)) _ (chain n m GND_TYPE (and_left _ _ e) (and_left _ _ f)) (all_chain ns ms (and_right (r (n, m)) _ e) (and_right (r (m, GND_TYPE)) _ f))
 
   each_chain : (ns ms ks : List ℕ) → each_pair r ns ms ≡ true → each_pair r ms ks ≡ true → each_pair s ns ks ≡ true
   each_chain [] [] [] e f = refl
@@ -213,7 +214,7 @@ module _ (r s : Pair → Bool) (wide : Within r s) (chain : (x y z : ℕ) → r 
       node_basic : (a b : Basic) → below_of_node r f ns (rule.Basic a) ≡ true → basic_below a b ≡ true → below_of_node s f ns (rule.Basic b) ≡ true
       node_basic a basic.Term e h = refl
       node_basic basic.Struct basic.Struct e h = refl
-      node_basic basic.Gnd basic.Gnd e h = all_mono (λ n. r (n, gnd)) (λ n. s (n, gnd)) (λ n. wide (n, gnd)) ns e
+      node_basic basic.Gnd basic.Gnd e h = all_mono (λ n. r (n, GND_TYPE)) (λ n. s (n, GND_TYPE)) (λ n. wide (n, GND_TYPE)) ns e
       node_basic basic.Term b e h = cc
       node_basic basic.Int b e h = cc
       node_basic basic.Nnegint b e h = cc

@@ -1,12 +1,12 @@
-pub mod FixpointLaws
-pub mod RelationLaws
-pub mod MemberLaws
-pub mod OrderLaws
-pub mod TableLaws
-pub mod LeafLoops
-pub mod MakeLaws
-pub mod Lists
-pub mod BitLaws
-pub mod BelowLaws
-pub mod MemberTerms
-pub mod TouchLaws
+mod FixpointLaws
+mod RelationLaws
+mod MemberLaws
+mod OrderLaws
+mod TableLaws
+mod LeafLoops
+mod MakeLaws
+mod Lists
+mod BitLaws
+mod BelowLaws
+mod MemberTerms
+mod TouchLaws

@@ -16,7 +16,8 @@ use Rattle.prog_data.proofs.Leaves.{In, here, later, any_in, in_any, Leads, leaf
 use Rattle.prog_data.proofs.Leaves as way
 use Rattle.prog_data.proofs.MembershipLaws.{belongs_sound, belongs_complete}
 use Rattle.name_order.specs.Fixpoints.{ConsistentTest, ClosedTest}
-use Rattle.name_order.specs.Relations.{gnd, Pair, leaf_has, has_member, full_leaves, each_pair, basic_below, leaf_below, below_rule, basic_meets, leaf_meets, meets_rule, HasGnd, Below, Meets, HasMember}
+use Rattle.prog_data.specs.declared.basic_names.TheConstants.{GND_TYPE}
+use Rattle.name_order.specs.Relations.{Pair, leaf_has, has_member, full_leaves, each_pair, basic_below, leaf_below, below_rule, basic_meets, leaf_meets, meets_rule, HasGnd, Below, Meets, HasMember}
 use Rattle.name_order.proofs.FixpointLaws.{and_left, and_right, and_both}
 use Rattle.name_order.proofs.RelationLaws.{all_in, full_in, in_full, member_law, member_closed}
 
@@ -34,8 +35,8 @@ same_both a b c e f = subst (λ x. (x == c) ≡ true) (nat_same a b e) f
 
 -- the leaves of gnd
 module _ (g : Grammar) (has_gnd : HasGnd g) where
-  gnd_leaf : (r : Rule) → In r (leaves g gnd) → r ≡ rule.Basic basic.Gnd
-  gnd_leaf r i = let l = leaf_of g r (length g.rules) gnd i in at_end gnd l.0 l.1 l.2 has_gnd l.3
+  gnd_leaf : (r : Rule) → In r (leaves g GND_TYPE) → r ≡ rule.Basic basic.Gnd
+  gnd_leaf r i = let l = leaf_of g r (length g.rules) GND_TYPE i in at_end GND_TYPE l.0 l.1 l.2 has_gnd l.3
     where
       only : (s : Rule) → In r (s ∷ []) → r ≡ s
       only s here = refl
@@ -49,11 +50,11 @@ module _ (g : Grammar) (has_gnd : HasGnd g) where
       at_end n o xs way.none e i = only (rule.Basic basic.Gnd) (subst (In r) e i)
       at_end n o xs (way.more {m = m} u l) e i = no_unit m (rule.Unit m) (subst (In (rule.Unit m)) e u) refl
 
-  pub in_gnd : (t : Term) → belongs g t gnd ≡ true → admits g t (rule.Basic basic.Gnd) ≡ true
-  in_gnd t e = let m = any_in (admits g t) (leaves g gnd) e in subst (λ r. admits g t r ≡ true) (gnd_leaf m.0 m.1) m.2
+  pub in_gnd : (t : Term) → belongs g t GND_TYPE ≡ true → admits g t (rule.Basic basic.Gnd) ≡ true
+  in_gnd t e = let m = any_in (admits g t) (leaves g GND_TYPE) e in subst (λ r. admits g t r ≡ true) (gnd_leaf m.0 m.1) m.2
 
-  pub gnd_in : (t : Term) → admits g t (rule.Basic basic.Gnd) ≡ true → belongs g t gnd ≡ true
-  gnd_in t e = in_any (admits g t) (leaves g gnd) (leads_to_leaf g (rule.Basic basic.Gnd) gnd gnd [] way.none (subst (In (rule.Basic basic.Gnd)) (sym has_gnd) here) refl) e
+  pub gnd_in : (t : Term) → admits g t (rule.Basic basic.Gnd) ≡ true → belongs g t GND_TYPE ≡ true
+  gnd_in t e = in_any (admits g t) (leaves g GND_TYPE) (leads_to_leaf g (rule.Basic basic.Gnd) GND_TYPE GND_TYPE [] way.none (subst (In (rule.Basic basic.Gnd)) (sym has_gnd) here) refl) e
 
 -- a leaf with a member, and a name with one
 
@@ -150,13 +151,13 @@ module _ (g : Grammar) (has_gnd : HasGnd g) (r : Pair → Bool) where
   abbrev pub Rises : Term → Type 0
   Rises t = (n m : ℕ) → r (n, m) ≡ true → belongs g t n ≡ true → belongs g t m ≡ true
 
-  all_rise : (ts : List Term) (ns : List ℕ) → AllByRecursion Rises ts → list_all (λ n. r (n, gnd)) ns ≡ true → admit_each g (map (admits g) ts) ns ≡ true → list_all (λ p. p (rule.Basic basic.Gnd)) (map (admits g) ts) ≡ true
+  all_rise : (ts : List Term) (ns : List ℕ) → AllByRecursion Rises ts → list_all (λ n. r (n, GND_TYPE)) ns ≡ true → admit_each g (map (admits g) ts) ns ≡ true → list_all (λ p. p (rule.Basic basic.Gnd)) (map (admits g) ts) ≡ true
   all_rise [] [] h l e = refl
   all_rise [] (n ∷ ns) h l e = cc
   all_rise (t ∷ ts) [] h l e = cc
   all_rise (t ∷ ts) (n ∷ ns) h l e =
-      and_both (admits g t (rule.Basic basic.Gnd)) (list_all (λ p. p (rule.Basic basic.Gnd)) (map (admits g) ts)) (in_gnd g has_gnd t (h.0 n gnd (and_left _ _ l) (and_left _ _ e)))
-      (all_rise ts ns h.1 (and_right (r (n, gnd)) _ l) (and_right (list_any (admits g t) (leaves g n)) _ e))
+      and_both (admits g t (rule.Basic basic.Gnd)) (list_all (λ p. p (rule.Basic basic.Gnd)) (map (admits g) ts)) (in_gnd g has_gnd t (h.0 n GND_TYPE (and_left _ _ l) (and_left _ _ e)))
+      (all_rise ts ns h.1 (and_right (r (n, GND_TYPE)) _ l) (and_right (list_any (admits g t) (leaves g n)) _ e))
 
   each_rise : (ts : List Term) (ns ms : List ℕ) → AllByRecursion Rises ts → each_pair r ns ms ≡ true → admit_each g (map (admits g) ts) ns ≡ true → admit_each g (map (admits g) ts) ms ≡ true
   each_rise [] [] [] h l e = refl
@@ -254,12 +255,12 @@ module _ (g : Grammar) (has_gnd : HasGnd g) (r : Pair → Bool) where
   abbrev pub Meet : Term → Type 0
   Meet t = (n m : ℕ) → belongs g t n ≡ true → belongs g t m ≡ true → r (n, m) ≡ true
 
-  all_meet : (ts : List Term) (ns : List ℕ) → AllByRecursion Meet ts → admit_each g (map (admits g) ts) ns ≡ true → list_all (λ p. p (rule.Basic basic.Gnd)) (map (admits g) ts) ≡ true → list_all (λ n. r (n, gnd)) ns ≡ true
+  all_meet : (ts : List Term) (ns : List ℕ) → AllByRecursion Meet ts → admit_each g (map (admits g) ts) ns ≡ true → list_all (λ p. p (rule.Basic basic.Gnd)) (map (admits g) ts) ≡ true → list_all (λ n. r (n, GND_TYPE)) ns ≡ true
   all_meet [] [] h d e = refl
   all_meet [] (n ∷ ns) h d e = cc
   all_meet (t ∷ ts) [] h d e = cc
   all_meet (t ∷ ts) (n ∷ ns) h d e =
-      and_both (r (n, gnd)) (list_all (λ n. r (n, gnd)) ns) (h.0 n gnd (and_left _ _ d) (gnd_in g has_gnd t (and_left _ _ e)))
+      and_both (r (n, GND_TYPE)) (list_all (λ n. r (n, GND_TYPE)) ns) (h.0 n GND_TYPE (and_left _ _ d) (gnd_in g has_gnd t (and_left _ _ e)))
       (all_meet ts ns h.1 (and_right (list_any (admits g t) (leaves g n)) _ d) (and_right (admits g t (rule.Basic basic.Gnd)) _ e))
 
   each_meet : (ts : List Term) (ns ms : List ℕ) → AllByRecursion Meet ts → admit_each g (map (admits g) ts) ns ≡ true → admit_each g (map (admits g) ts) ms ≡ true → each_pair r ns ms ≡ true

@@ -12,7 +12,8 @@ use Rattle.prog_data.specs.Membership.{rules_of, leaves}
 use Rattle.prog_data.proofs.Leaves.{In, here, later, any_in, in_any, in_filter, filter_in, in_flat, Leads, leaf_of}
 use Rattle.prog_data.proofs.Leaves as way
 use Rattle.name_order.specs.Fixpoints.{ClosedTest, Within, Monotone, IsLeastTest, IsGreatestTest}
-use Rattle.name_order.specs.Relations.{gnd, Pair, same_pair, is_name, are_names, leaf_has, member_rule, HasMember, names_from, names_below, has_member, full_leaves, each_pair, below_of_node, leaf_below, below_rule, Below, all_pairs, below, node_meets_basic, meets_of_basic, meets_of_node, leaf_meets, meets_rule, Meets, meets}
+use Rattle.prog_data.specs.declared.basic_names.TheConstants.{GND_TYPE}
+use Rattle.name_order.specs.Relations.{Pair, same_pair, is_name, are_names, leaf_has, member_rule, HasMember, names_from, names_below, has_member, full_leaves, each_pair, below_of_node, leaf_below, below_rule, Below, all_pairs, below, node_meets_basic, meets_of_basic, meets_of_node, leaf_meets, meets_rule, Meets, meets}
 use Rattle.name_order.proofs.FixpointLaws.{and_left, and_right, and_both, greatest_law, least_law, least_closed, least_within}
 
 pub all_mono : {A : Type 0} (p q : A → Bool) → Within p q → (xs : List A) → list_all p xs ≡ true → list_all q xs ≡ true
@@ -114,7 +115,7 @@ module _ (r s : Pair → Bool) (w : Within r s) where
   below_node_mono : (f : ℕ) (ns : List ℕ) (b : Rule) → below_of_node r f ns b ≡ true → below_of_node s f ns b ≡ true
   below_node_mono f ns (rule.Basic basic.Term) e = refl
   below_node_mono f ns (rule.Basic basic.Struct) e = refl
-  below_node_mono f ns (rule.Basic basic.Gnd) e = all_mono (λ n. r (n, gnd)) (λ n. s (n, gnd)) (λ n. w (n, gnd)) ns e
+  below_node_mono f ns (rule.Basic basic.Gnd) e = all_mono (λ n. r (n, GND_TYPE)) (λ n. s (n, GND_TYPE)) (λ n. w (n, GND_TYPE)) ns e
   below_node_mono f ns (rule.Node h ms) e = and_both (f == h) (each_pair s ns ms) (and_left _ _ e) (each_mono r s w ns ms (and_right (f == h) _ e))
   below_node_mono f ns other e = cc
 
@@ -128,7 +129,7 @@ module _ (r s : Pair → Bool) (w : Within r s) where
   node_basic_mono : (ns : List ℕ) (b : Basic) → node_meets_basic r ns b ≡ true → node_meets_basic s ns b ≡ true
   node_basic_mono ns basic.Term e = refl
   node_basic_mono ns basic.Struct e = refl
-  node_basic_mono ns basic.Gnd e = all_mono (λ n. r (n, gnd)) (λ n. s (n, gnd)) (λ n. w (n, gnd)) ns e
+  node_basic_mono ns basic.Gnd e = all_mono (λ n. r (n, GND_TYPE)) (λ n. s (n, GND_TYPE)) (λ n. w (n, GND_TYPE)) ns e
   node_basic_mono ns other e = cc
 
   meets_basic_mono : (a : Basic) (b : Rule) → meets_of_basic r a b ≡ true → meets_of_basic s a b ≡ true

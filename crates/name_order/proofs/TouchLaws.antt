@@ -10,7 +10,8 @@ use Rattle.prog_data.specs.declared.grammars.Rule.TheVariants as rule
 use Rattle.prog_data.proofs.Leaves.{In, here, later, any_in, in_any, in_flat}
 use Rattle.name_order.specs.declared.marking.Kind.{Kind}
 use Rattle.name_order.specs.declared.marking.Kind.TheVariants.{Leads, Members, Outside, Meets}
-use Rattle.name_order.specs.Relations.{gnd, Pair, same_pair, is_name, are_names, names_below, leaf_has, each_pair, below_of_node, leaf_below, node_meets_basic, leaf_meets, looked_up}
+use Rattle.prog_data.specs.declared.basic_names.TheConstants.{GND_TYPE}
+use Rattle.name_order.specs.Relations.{Pair, same_pair, is_name, are_names, names_below, leaf_has, each_pair, below_of_node, leaf_below, node_meets_basic, leaf_meets, looked_up}
 use Rattle.name_order.specs.Tables.{listed, speaks_of, user_if, users, all_users, touched, unit_leads, due, marking}
 use Rattle.name_order.proofs.FixpointLaws.{and_left, and_right, and_both, clash, not_true, not_false, not_not_true}
 use Rattle.name_order.proofs.RelationLaws.{all_in, name_listed, nat_eq_same, nat_eq_itself}
@@ -39,7 +40,7 @@ module _ (r s : Pair → Bool) where
 
   -- a pair that two leaves speak of, in this order
   abbrev Stays : Rule → Rule → Type 0
-  Stays a b = (n m : ℕ) → speaks_of n a ≡ true → ((m == gnd) || speaks_of m b) ≡ true → r (n, m) ≡ true → s (n, m) ≡ true
+  Stays a b = (n m : ℕ) → speaks_of n a ≡ true → ((m == GND_TYPE) || speaks_of m b) ≡ true → r (n, m) ≡ true → s (n, m) ≡ true
 
   below_stays : (a b : Rule) → Stays a b → leaf_below r a b ≡ true → leaf_below s a b ≡ true
   below_stays (rule.Node f ns) b w e = node b w e
@@ -47,31 +48,31 @@ module _ (r s : Pair → Bool) where
       node : (b : Rule) → Stays (rule.Node f ns) b → below_of_node r f ns b ≡ true → below_of_node s f ns b ≡ true
       node (rule.Basic basic.Term) w e = refl
       node (rule.Basic basic.Struct) w e = refl
-      node (rule.Basic basic.Gnd) w e = all_stay gnd ns (λ n i. w n gnd (listed_in ns n i) refl) e
-      node (rule.Node h ms) w e = and_both (f == h) (each_pair s ns ms) (and_left _ _ e) (each_stay ns ms (λ n m i j. w n m (listed_in ns n i) (or_second (m == gnd) _ (listed_in ms m j))) (and_right (f == h) _ e))
+      node (rule.Basic basic.Gnd) w e = all_stay GND_TYPE ns (λ n i. w n GND_TYPE (listed_in ns n i) refl) e
+      node (rule.Node h ms) w e = and_both (f == h) (each_pair s ns ms) (and_left _ _ e) (each_stay ns ms (λ n m i j. w n m (listed_in ns n i) (or_second (m == GND_TYPE) _ (listed_in ms m j))) (and_right (f == h) _ e))
       node other w e = cc
   below_stays (rule.Basic a) b w e = e
   below_stays (rule.Int k) b w e = e
   below_stays (rule.Atom a) b w e = e
   below_stays (rule.Unit m) b w e = cc
 
-  node_basic_stays : (ns : List ℕ) (b : Basic) → ((n : ℕ) → In n ns → r (n, gnd) ≡ true → s (n, gnd) ≡ true) → node_meets_basic r ns b ≡ true → node_meets_basic s ns b ≡ true
+  node_basic_stays : (ns : List ℕ) (b : Basic) → ((n : ℕ) → In n ns → r (n, GND_TYPE) ≡ true → s (n, GND_TYPE) ≡ true) → node_meets_basic r ns b ≡ true → node_meets_basic s ns b ≡ true
   node_basic_stays ns basic.Term w e = refl
   node_basic_stays ns basic.Struct w e = refl
-  node_basic_stays ns basic.Gnd w e = all_stay gnd ns w e
+  node_basic_stays ns basic.Gnd w e = all_stay GND_TYPE ns w e
   node_basic_stays ns other w e = cc
 
   -- meets speaks of them in both orders
   meets_stays : (a b : Rule) → Stays a b → Stays b a → leaf_meets r a b ≡ true → leaf_meets s a b ≡ true
-  meets_stays (rule.Basic a) (rule.Node f ns) w v e = node_basic_stays ns a (λ n i. v n gnd (listed_in ns n i) refl) e
+  meets_stays (rule.Basic a) (rule.Node f ns) w v e = node_basic_stays ns a (λ n i. v n GND_TYPE (listed_in ns n i) refl) e
   meets_stays (rule.Basic a) (rule.Basic b) w v e = e
   meets_stays (rule.Basic a) (rule.Int k) w v e = e
   meets_stays (rule.Basic a) (rule.Atom c) w v e = e
   meets_stays (rule.Basic a) (rule.Unit m) w v e = e
   meets_stays (rule.Int k) b w v e = e
   meets_stays (rule.Atom a) b w v e = e
-  meets_stays (rule.Node f ns) (rule.Basic b) w v e = node_basic_stays ns b (λ n i. w n gnd (listed_in ns n i) refl) e
-  meets_stays (rule.Node f ns) (rule.Node h ms) w v e = and_both (f == h) (each_pair s ns ms) (and_left _ _ e) (each_stay ns ms (λ n m i j. w n m (listed_in ns n i) (or_second (m == gnd) _ (listed_in ms m j))) (and_right (f == h) _ e))
+  meets_stays (rule.Node f ns) (rule.Basic b) w v e = node_basic_stays ns b (λ n i. w n GND_TYPE (listed_in ns n i) refl) e
+  meets_stays (rule.Node f ns) (rule.Node h ms) w v e = and_both (f == h) (each_pair s ns ms) (and_left _ _ e) (each_stay ns ms (λ n m i j. w n m (listed_in ns n i) (or_second (m == GND_TYPE) _ (listed_in ms m j))) (and_right (f == h) _ e))
   meets_stays (rule.Node f ns) b w v e = cc
   meets_stays (rule.Unit m) b w v e = cc
 
@@ -82,27 +83,27 @@ module _ (lists : List (List Rule)) where
   users_found k e = inside (users lists) k 0 (length lists) (grind (arith, nat_tests)) ∙ ap (users lists) (omega arith)
 
   -- a name with a leaf that speaks of another uses it, and each uses gnd
-  used_by : (k n : ℕ) (a : Rule) → is_name (length lists) k ≡ true → is_name (length lists) n ≡ true → In a (looked_up lists n) → ((k == gnd) || speaks_of k a) ≡ true → listed (slice_index_or (all_users lists) k []) n ≡ true
+  used_by : (k n : ℕ) (a : Rule) → is_name (length lists) k ≡ true → is_name (length lists) n ≡ true → In a (looked_up lists n) → ((k == GND_TYPE) || speaks_of k a) ≡ true → listed (slice_index_or (all_users lists) k []) n ≡ true
   used_by k n a known name i e =
       subst (λ ns. listed ns n ≡ true) (sym (users_found k known))
       (listed_in (users lists k) n (in_flat (user_if lists k) (names_below (length lists)) ((name_listed (length lists) n).0 name)
-      (subst (λ b. In n (cond b (n ∷ []) [])) (sym (either (or_parts_true (k == gnd) _ e))) here)))
+      (subst (λ b. In n (cond b (n ∷ []) [])) (sym (either (or_parts_true (k == GND_TYPE) _ e))) here)))
     where
-      either : ((k == gnd) ≡ true) ⊎ (speaks_of k a ≡ true) → ((k == gnd) || list_any (speaks_of k) (looked_up lists n)) ≡ true
-      either (inl g) = or_first (k == gnd) _ g
-      either (inr h) = or_second (k == gnd) _ (in_any (speaks_of k) (looked_up lists n) i h)
+      either : ((k == GND_TYPE) ≡ true) ⊎ (speaks_of k a ≡ true) → ((k == GND_TYPE) || list_any (speaks_of k) (looked_up lists n)) ≡ true
+      either (inl g) = or_first (k == GND_TYPE) _ g
+      either (inr h) = or_second (k == GND_TYPE) _ (in_any (speaks_of k) (looked_up lists n) i h)
 
   module _ (r s : Pair → Bool) (q : Pair) (names : are_names (length lists) q ≡ true) (grown : (p : Pair) → s p ≡ true → (same_pair p q ≡ true) ⊎ (r p ≡ true)) where
     -- the names of the pair use those of q, the first the first and the second the second
     use_both : (x y : ℕ) (a b : Rule) → is_name (length lists) x ≡ true → is_name (length lists) y ≡ true → In a (looked_up lists x) → In b (looked_up lists y) →
-        (n m : ℕ) → same_pair (n, m) q ≡ true → speaks_of n a ≡ true → ((m == gnd) || speaks_of m b) ≡ true →
+        (n m : ℕ) → same_pair (n, m) q ≡ true → speaks_of n a ≡ true → ((m == GND_TYPE) || speaks_of m b) ≡ true →
         (listed (slice_index_or (all_users lists) q.0 []) x && listed (slice_index_or (all_users lists) q.1 []) y) ≡ true
     use_both x y a b name_x name_y i j n m same e f =
         let first : n ≡ q.0 = nat_eq_same n q.0 (and_left _ _ same) in
         let second : m ≡ q.1 = nat_eq_same m q.1 (and_right (n == q.0) _ same) in
         and_both (listed (slice_index_or (all_users lists) q.0 []) x) _
-        (used_by q.0 x a (and_left _ _ names) name_x i (or_second (q.0 == gnd) _ (subst (λ k. speaks_of k a ≡ true) first e)))
-        (used_by q.1 y b (and_right (is_name (length lists) q.0) _ names) name_y j (subst (λ k. ((k == gnd) || speaks_of k b) ≡ true) second f))
+        (used_by q.0 x a (and_left _ _ names) name_x i (or_second (q.0 == GND_TYPE) _ (subst (λ k. speaks_of k a ≡ true) first e)))
+        (used_by q.1 y b (and_right (is_name (length lists) q.0) _ names) name_y j (subst (λ k. ((k == GND_TYPE) || speaks_of k b) ≡ true) second f))
 
     abbrev within : (Pair → Bool) → Pair → Bool
     within t p = are_names (length lists) p && not (t p)
@@ -129,7 +130,7 @@ module _ (lists : List (List Rule)) where
               let first : k ≡ q.0 = nat_eq_same k q.0 (and_left _ _ same) in
               let second : p.1 ≡ q.1 = nat_eq_same p.1 q.1 (and_right (k == q.0) _ same) in
               clash _ (and_both (listed (slice_index_or (all_users lists) q.0 []) p.0) _
-              (used_by q.0 p.0 (rule.Unit k) (and_left _ _ names) name_0 i (or_second (q.0 == gnd) _ (subst (λ x. (x == k) ≡ true) first (nat_eq_itself k))))
+              (used_by q.0 p.0 (rule.Unit k) (and_left _ _ names) name_0 i (or_second (q.0 == GND_TYPE) _ (subst (λ x. (x == k) ≡ true) first (nat_eq_itself k))))
               (or_first (p.1 == q.1) _ (subst (λ x. (p.1 == x) ≡ true) second (nat_eq_itself p.1)))) free)
               f
 
@@ -153,7 +154,7 @@ module _ (lists : List (List Rule)) where
 
           by_leaf : (a : Rule) → In a (looked_up lists p.0) → In a (looked_up lists p.1) → leaf_has (λ n. s (n, n)) a ≡ true → leaf_has (λ n. r (n, n)) a ≡ true
           by_leaf (rule.Node f ns) i j h =
-              each ns (λ n k. back n n (λ same. clash _ (use_both p.0 p.1 (rule.Node f ns) (rule.Node f ns) name_0 name_1 i j n n same (listed_in ns n k) (or_second (n == gnd) _ (listed_in ns n k))) free)) h
+              each ns (λ n k. back n n (λ same. clash _ (use_both p.0 p.1 (rule.Node f ns) (rule.Node f ns) name_0 name_1 i j n n same (listed_in ns n k) (or_second (n == GND_TYPE) _ (listed_in ns n k))) free)) h
           by_leaf other i j h = refl
 
       outside_back : touched Outside (all_users lists) q p ≡ false → due Outside lists s p ≡ true → due Outside lists r p ≡ true

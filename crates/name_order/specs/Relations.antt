@@ -6,12 +6,9 @@ use Rattle.prog_data.specs.declared.grammars.Basic.TheVariants as basic
 use Rattle.prog_data.specs.declared.grammars.Rule.{Rule}
 use Rattle.prog_data.specs.declared.grammars.Rule.TheVariants.{Basic as BasicRule, Int, Atom, Node, Unit as UnitRule}
 use Rattle.prog_data.specs.declared.grammars.Grammar.{Grammar}
+use Rattle.prog_data.specs.declared.basic_names.TheConstants.{GND_TYPE}
 use Rattle.prog_data.specs.Membership.{rules_of, leaves, admits_int, admits_atom}
 use Rattle.name_order.specs.Fixpoints.{RuleOf, GreatestTest, LeastTest, is_in, greatest_of, not_least}
-
--- the name gnd
-abbrev pub gnd : ℕ
-gnd = 5
 
 -- two names
 abbrev pub Pair : Type 0
@@ -97,7 +94,7 @@ below_of_basic a other = false
 abbrev pub below_of_node : (Pair → Bool) → ℕ → List ℕ → Rule → Bool
 below_of_node r f ns (BasicRule basic.Term) = true
 below_of_node r f ns (BasicRule basic.Struct) = true
-below_of_node r f ns (BasicRule basic.Gnd) = list_all (λ n. r (n, gnd)) ns
+below_of_node r f ns (BasicRule basic.Gnd) = list_all (λ n. r (n, GND_TYPE)) ns
 below_of_node r f ns (Node h ms) = (f == h) && each_pair r ns ms
 below_of_node r f ns other = false
 
@@ -149,7 +146,7 @@ basic_meets a b = false
 abbrev pub node_meets_basic : (Pair → Bool) → List ℕ → Basic → Bool
 node_meets_basic r ns basic.Term = true
 node_meets_basic r ns basic.Struct = true
-node_meets_basic r ns basic.Gnd = list_all (λ n. r (n, gnd)) ns
+node_meets_basic r ns basic.Gnd = list_all (λ n. r (n, GND_TYPE)) ns
 node_meets_basic r ns other = false
 
 -- a basic leaf and a leaf
@@ -230,7 +227,7 @@ pub record IsOrder (g : Grammar) (o : Order) : Type 0 where
 
 -- the rule of the name gnd is that of every grammar
 abbrev pub HasGnd : Grammar → Type 0
-HasGnd g = rules_of g gnd ≡ BasicRule basic.Gnd ∷ []
+HasGnd g = rules_of g GND_TYPE ≡ BasicRule basic.Gnd ∷ []
 
 -- and that of the name term
 abbrev pub HasTerm : Grammar → Type 0

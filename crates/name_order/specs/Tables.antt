@@ -8,7 +8,8 @@ use Rattle.name_order.specs.declared.marking.Kind.{Kind}
 use Rattle.name_order.specs.declared.marking.Kind.TheVariants.{Leads, Members, Outside, Meets}
 use Rattle.prog_data.specs.Values.{bit_at}
 use Rattle.name_order.specs.Fixpoints.{RuleOf, ClosedTest, LeastTest, Within}
-use Rattle.name_order.specs.Relations.{gnd, Pair, are_names, names_below, all_pairs, leaf_has, leaf_below, leaf_meets, looked_up}
+use Rattle.prog_data.specs.declared.basic_names.TheConstants.{GND_TYPE}
+use Rattle.name_order.specs.Relations.{Pair, are_names, names_below, all_pairs, leaf_has, leaf_below, leaf_meets, looked_up}
 
 -- a bit for each pair of so many names, row by row
 pub record Grid : Type 0 where
@@ -102,7 +103,7 @@ speaks_of k other = false
 
 -- a name alone, if what it has may hang on the used one: on gnd, or on what a rule speaks of
 abbrev pub user_if : List (List Rule) → ℕ → ℕ → List ℕ
-user_if lists used n = cond ((used == gnd) || list_any (speaks_of used) (looked_up lists n)) (n ∷ []) []
+user_if lists used n = cond ((used == GND_TYPE) || list_any (speaks_of used) (looked_up lists n)) (n ∷ []) []
 
 -- the names whose tables may hang on the used one
 abbrev pub users : List (List Rule) → ℕ → List ℕ

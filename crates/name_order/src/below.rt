@@ -1,22 +1,20 @@
 // Whether the leaves of a name are below those of a name, by the pairs of names that are known not to be below.
 ghost use Rattle.std.specs.Prelude.{◌≡◌};
 ghost use Rattle.std.specs.List.{list_any, list_all};
-ghost use Rattle.name_order.specs.Relations.{gnd, each_pair, below_of_node, leaf_below};
+ghost use Rattle.prog_data.specs.declared.basic_names.TheConstants.{GND_TYPE};
+ghost use Rattle.name_order.specs.Relations.{each_pair, below_of_node, leaf_below};
 ghost use Rattle.name_order.specs.Tables.{lacks};
 
 use crate::basics::{admits_atom, admits_int, basic_below};
 use crate::pairs::Pairs;
-use prog_data::{Basic, Rule};
-
-/// The number of the name gnd, which has all terms without variables.
-pub(crate) const GND: u64 = 5;
+use prog_data::{Basic, GND_TYPE, Rule};
 
 // Whether each name is below the name gnd.
 fn all_below_gnd(outside: &Pairs, names: &[u64]) -> bool
-    ensures { result ≡ list_all (λ n. lacks outside.now (n, gnd)) names.now }
+    ensures { result ≡ list_all (λ n. lacks outside.now (n, GND_TYPE)) names.now }
 {
     for name in names {
-        if !outside.lacks(*name, GND) {
+        if !outside.lacks(*name, GND_TYPE) {
             return false;
         }
     }

@@ -2,20 +2,20 @@
 ghost use Rattle.std.specs.Prelude.{◌≡◌};
 ghost use Rattle.std.specs.List.{list_any, list_all};
 ghost use Rattle.prog_data.specs.declared.grammars.Rule.TheVariants as rules;
-ghost use Rattle.name_order.specs.Relations.{gnd, each_pair, node_meets_basic, meets_of_basic, meets_of_node, leaf_meets};
+ghost use Rattle.prog_data.specs.declared.basic_names.TheConstants.{GND_TYPE};
+ghost use Rattle.name_order.specs.Relations.{each_pair, node_meets_basic, meets_of_basic, meets_of_node, leaf_meets};
 ghost use Rattle.name_order.specs.Tables.{has};
 
 use crate::basics::{admits_atom, admits_int, basic_meets};
-use crate::below::GND;
 use crate::pairs::Pairs;
-use prog_data::{Basic, Rule};
+use prog_data::{Basic, GND_TYPE, Rule};
 
 // Whether each name meets the name gnd.
 fn all_meet_gnd(meeting: &Pairs, names: &[u64]) -> bool
-    ensures { result ≡ list_all (λ n. has meeting.now (n, gnd)) names.now }
+    ensures { result ≡ list_all (λ n. has meeting.now (n, GND_TYPE)) names.now }
 {
     for name in names {
-        if !meeting.has(*name, GND) {
+        if !meeting.has(*name, GND_TYPE) {
             return false;
         }
     }

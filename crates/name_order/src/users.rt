@@ -4,11 +4,10 @@ ghost use Rattle.std.specs.List.{list_any};
 ghost use Rattle.name_order.specs.Relations.{Pair};
 ghost use Rattle.name_order.specs.Tables.{has, listed, speaks_of, user_if, users, all_users, touched};
 
-use crate::below::GND;
 use crate::leaves::rules_at;
 use crate::marking::Kind;
 use crate::pairs::Pairs;
-use prog_data::Rule;
+use prog_data::{GND_TYPE, Rule};
 use sqlite_items::Items;
 use std::alloc::Global;
 use term_core::NoMemory;
@@ -57,7 +56,7 @@ fn push_user(
 ) -> Result<(), NoMemory>
     ensures { OnOk result (found.new ≡ found.old ++ user_if lists.now used name) }
 {
-    if used == GND || some_speaks_of(used, rules_at(lists, name)) {
+    if used == GND_TYPE || some_speaks_of(used, rules_at(lists, name)) {
         found.push(name as u64)?;
     }
     Ok(())

@@ -1,15 +1,14 @@
 -- What has a value in arithmetic has no variables.
 use Rattle.std.proofs.Common.{◌≡◌, ℕ, Bool, true, false, ◌&&◌, List, [], ◌∷◌, map, refl, ap, sym, ◌∙◌, true≢false}
-use Rattle.std.specs.Prelude.{◌==◌, ◌^◌, ℤ, pos, Ok, Err, cond, ◌+ℤ◌, ◌-ℤ◌, ◌*ℤ◌, neg_ℤ, int_div, int_rem}
+use Rattle.std.specs.Prelude.{◌==◌, ℤ, Ok, Err, cond}
 use Rattle.std.specs.List.{list_all, AllByRecursion}
-use Rattle.std.specs.declared.result.Result.{Result}
 use Rattle.term_core.specs.declared.terms.Term.{Term}
 use Rattle.term_core.specs.declared.fixed.TheConstants.{PLUS, MINUS, TIMES, QUOTIENT, REMAINDER, MODULO}
 use Rattle.term_core.specs.Terms.{is_ground, is_ground_step}
 use Rattle.term_core.proofs.TermFolds.{fold-Var, fold-Int, fold-Atom, fold-Node, ind_terms}
 use Rattle.prog_data.specs.declared.events.ArithKind.{ArithKind}
 use Rattle.prog_data.specs.declared.events.ArithKind.TheVariants.{NotNumber}
-use Rattle.prog_data.specs.Arithmetic.{Number, within, modulus, divided, with_both, with_one, apply, value_step, value, ValuesAreGround}
+use Rattle.prog_data.specs.Arithmetic.{Number, with_both, with_one, apply, value_step, value, ValuesAreGround}
 
 -- a fault is no number
 

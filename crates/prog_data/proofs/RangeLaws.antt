@@ -1,22 +1,21 @@
 -- What is in range of a program stays so.
-use Rattle.std.proofs.Common.{◌≡◌, ◌≤◌, ◌<◌, ℕ, Bool, true, false, ◌&&◌, List, [], ◌∷◌, ◌++◌, map, length, refl, ap, sym, ◌∙◌, subst, arith, true≢false, length-append}
+use Rattle.std.proofs.Common.{◌≡◌, ◌≤◌, ℕ, Bool, true, false, ◌&&◌, List, [], ◌∷◌, map, length, refl, ap, sym, ◌∙◌, arith, true≢false, length-append}
 use Rattle.std.proofs.lemmas.List.{length-map}
 use Rattle.std.proofs.lemmas.Bool.Decides.{nat_tests}
 use Rattle.std.proofs.lemmas.Bool.{and_parts}
 use Rattle.std.proofs.lemmas.Option.{slice_get-get_or}
 use Rattle.std.specs.Prelude.{nat_lt, nat_le, ◌==◌, cond}
 use Rattle.std.specs.List.{list_all}
-use Rattle.term_core.specs.Names.{IsPrefix}
+use Rattle.term_core.specs.Lists.{IsPrefix}
 use Rattle.term_core.specs.Ranges.{has_names, IsInRange, RangesStay}
 use Rattle.term_core.specs.Terms.{instance, instance_step, above}
 use Rattle.term_core.specs.declared.terms.Term.{Term, out-Term}
-use Rattle.term_core.specs.declared.terms.Term.TheOpen as term_layer
 use Rattle.term_core.specs.declared.terms.Term.TheVariants.{outs-Var, outs-Int, outs-Atom, outs-Node}
-use Rattle.term_core.proofs.TermFolds.{fold-Var as term-Var, fold-Int as term-Int, fold-Atom as term-Atom, fold-Node as term-Node, ind_terms}
+use Rattle.term_core.proofs.TermFolds.{fold-Atom as term-Atom, ind_terms}
 use Rattle.prog_data.specs.declared.conditions.Cond.{Cond}
 use Rattle.prog_data.specs.declared.goals.Builtin.{Builtin as BuiltinName}
 use Rattle.prog_data.specs.declared.goals.Builtin.TheVariants as builtin
-use Rattle.prog_data.specs.declared.goals.Goal.{Goal, out-Goal, True, Fail, Cut, Call, Builtin, Conj, Disj, IfElse, Not, Exit}
+use Rattle.prog_data.specs.declared.goals.Goal.{Goal, out-Goal}
 use Rattle.prog_data.specs.declared.goals.Goal.TheOpen as layer
 use Rattle.prog_data.specs.declared.goals.Goal.TheVariants.{outs-True, outs-Fail, outs-Cut, outs-Call, outs-Builtin, outs-Conj, outs-Disj, outs-IfElse, outs-Not, outs-Exit}
 use Rattle.prog_data.specs.declared.grammars.Rule.{Rule}
@@ -25,9 +24,9 @@ use Rattle.prog_data.specs.declared.programs.Claim.{Claim}
 use Rattle.prog_data.specs.declared.programs.Clause.{Clause}
 use Rattle.prog_data.specs.declared.programs.Pred.{Pred}
 use Rattle.prog_data.specs.declared.programs.Program.{Program}
-use Rattle.prog_data.specs.Goals.{goal_instance, goal_instance_step, is_exit, ends_in_exit, ends_in_exit_at, without_exit, without_exit_at, no_pred, pred_of}
-use Rattle.prog_data.specs.Ranges.{is_name_of, is_term_of, is_atom, is_type_test, is_builtin_of, is_call_of, goal_step, is_goal_of, is_body_of, is_clause_of, is_cond_of, is_pred_of}
-use Rattle.prog_data.specs.Programs.{with_names, HasCallChecks, IsPred, IsCond, is_named_rule, is_claim_of, IsProgram}
+use Rattle.prog_data.specs.Goals.{goal_instance, goal_instance_step, is_exit, ends_in_exit_at, without_exit, without_exit_at, no_pred, pred_of}
+use Rattle.prog_data.specs.Ranges.{is_name_of, is_term_of, is_atom, is_type_test, is_builtin_of, is_call_of, goal_step, is_goal_of, is_body_of, is_clause_of, is_pred_of}
+use Rattle.prog_data.specs.Programs.{with_names, IsPred, IsCond, is_named_rule, is_claim_of, IsProgram}
 use Rattle.prog_data.specs.RangeLaws.{AreTermsOf, RangesAreKept}
 use Rattle.prog_data.proofs.GoalFolds.{ind_goals, fold-True, fold-Fail, fold-Cut, fold-Call, fold-Builtin, fold-Conj, fold-Disj, fold-IfElse, fold-Not, fold-Exit}
 

@@ -1,7 +1,8 @@
 -- What is in range of a program stays so.
 use Rattle.std.specs.Prelude.{◌≡◌, ◌<◌, ℕ, true, false, List, [], length, slice_get, Some, Contains}
 use Rattle.term_core.specs.declared.terms.Term.{Term}
-use Rattle.term_core.specs.Names.{fixed_names, IsPrefix}
+use Rattle.term_core.specs.Names.{fixed_names}
+use Rattle.term_core.specs.Lists.{IsPrefix}
 use Rattle.term_core.specs.Standard.{standard}
 use Rattle.term_core.specs.Terms.{instance}
 use Rattle.prog_data.specs.declared.conditions.Cond.{Cond}

@@ -14,7 +14,8 @@ use Rattle.prog_data.specs.GrammarRange.{IsGrammar, is_rule_of}
 use Rattle.prog_data.specs.Membership.{admits_int, admits_atom, Belongs}
 use Rattle.prog_data.specs.Values.{TypeValue}
 use Rattle.prog_data.proofs.Leaves.{any_in, in_any}
-use Rattle.name_order.specs.Relations.{gnd, names_below, each_pair, basic_below, leaf_below, Order, order, IsOrder}
+use Rattle.prog_data.specs.declared.basic_names.TheConstants.{GND_TYPE}
+use Rattle.name_order.specs.Relations.{names_below, each_pair, basic_below, leaf_below, Order, order, IsOrder}
 use Rattle.name_order.specs.Laws.{BelowTransitive}
 use Rattle.type_domain.specs.Values.{term_name, has_name, is_set, IsUp, IsValue, join, all_fit, unless_apart, meet, of_name, of_int, of_atom, each_has, leaf_builds, where_fits, build, leaf_part, join_all, name_part, meet_where, meet_parts, project}
 use Rattle.type_domain.specs.Relied.{Relied}
@@ -61,11 +62,11 @@ module _ (up : ℕ → ℕ → Bool) where
   abbrev IsClosed : TypeValue → Type 0
   IsClosed v = (n m : ℕ) → has_name v n ≡ true → up n m ≡ true → has_name v m ≡ true
 
-  gnd_rises : (vs : List TypeValue) (ns : List ℕ) → AllByRecursion IsClosed vs → list_all (λ n. up n gnd) ns ≡ true → each_has vs ns ≡ true → list_all (λ v. has_name v gnd) vs ≡ true
+  gnd_rises : (vs : List TypeValue) (ns : List ℕ) → AllByRecursion IsClosed vs → list_all (λ n. up n GND_TYPE) ns ≡ true → each_has vs ns ≡ true → list_all (λ v. has_name v GND_TYPE) vs ≡ true
   gnd_rises [] [] h l e = refl
   gnd_rises [] (n ∷ ns) h l e = cc
   gnd_rises (v ∷ vs) [] h l e = cc
-  gnd_rises (v ∷ vs) (n ∷ ns) h l e = and_from (has_name v gnd) (list_all (λ v. has_name v gnd) vs) (h.0 n gnd (and_left _ _ e) (and_left _ _ l)) (gnd_rises vs ns h.1 (and_right (up n gnd) _ l) (and_right (has_name v n) _ e))
+  gnd_rises (v ∷ vs) (n ∷ ns) h l e = and_from (has_name v GND_TYPE) (list_all (λ v. has_name v GND_TYPE) vs) (h.0 n GND_TYPE (and_left _ _ e) (and_left _ _ l)) (gnd_rises vs ns h.1 (and_right (up n GND_TYPE) _ l) (and_right (has_name v n) _ e))
 
   each_rises : (vs : List TypeValue) (ns ms : List ℕ) → AllByRecursion IsClosed vs → each_pair (λ p. up p.0 p.1) ns ms ≡ true → each_has vs ns ≡ true → each_has vs ms ≡ true
   each_rises [] [] [] h l e = refl
@@ -172,7 +173,7 @@ module _ (g : Grammar) (is : IsGrammar g) (says : Relied g) where
   leaf_given : (f arity part : ℕ) (r : Rule) → is_rule_of (length g.rules) r ≡ true → IsValue o (leaf_part o f arity part r)
   leaf_given f arity part (rule.Basic basic.Term) e = name_given 0 (let le = ten in omega (arith, le))
   leaf_given f arity part (rule.Basic basic.Struct) e = name_given 0 (let le = ten in omega (arith, le))
-  leaf_given f arity part (rule.Basic basic.Gnd) e = name_given gnd (let le = ten in omega (arith, le))
+  leaf_given f arity part (rule.Basic basic.Gnd) e = name_given GND_TYPE (let le = ten in omega (arith, le))
   leaf_given f arity part (rule.Node h ns) e = either ((f == h) && (length ns == arity))
     where
       either : (b : Bool) → IsValue o (where_fits b (of_name o (slice_index_or ns part term_name)))

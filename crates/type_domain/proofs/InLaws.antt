@@ -12,7 +12,8 @@ use Rattle.prog_data.specs.declared.grammars.Rule.TheVariants as rule
 use Rattle.prog_data.specs.declared.grammars.Grammar.{Grammar}
 use Rattle.prog_data.specs.Membership.{leaves, admits_int, admits_atom, admits_node, admit_each, admits, admits_step, Belongs}
 use Rattle.prog_data.proofs.Leaves.{In, here, later, any_in, in_any}
-use Rattle.name_order.specs.Relations.{gnd, Order, order}
+use Rattle.prog_data.specs.declared.basic_names.TheConstants.{GND_TYPE}
+use Rattle.name_order.specs.Relations.{Order, order}
 use Rattle.prog_data.specs.Values.{TypeValue, IsIn, AreIn}
 use Rattle.type_domain.specs.Values.{term_name, Leq, join, is_inhabited, all_fit, unless_apart, meet, of_name, of_int, of_atom, has_name, is_set, each_has, leaf_builds, build, where_fits, leaf_part, join_all, name_part, meet_where, meet_parts, project, names_of}
 use Rattle.type_domain.specs.Relied.{Relied}
@@ -93,12 +94,12 @@ module _ (g : Grammar) (says : Relied g) where
   all_set (t ∷ ts) (None ∷ vs) d = absurd d.0
   all_set (t ∷ ts) (Some p ∷ vs) d = all_set ts vs d.1
 
-  all_ground : (ts : List Term) (vs : List TypeValue) → AreIn g ts vs → list_all (λ v. has_name v gnd) vs ≡ true → list_all (λ p. p (rule.Basic basic.Gnd)) (map (admits g) ts) ≡ true
+  all_ground : (ts : List Term) (vs : List TypeValue) → AreIn g ts vs → list_all (λ v. has_name v GND_TYPE) vs ≡ true → list_all (λ p. p (rule.Basic basic.Gnd)) (map (admits g) ts) ≡ true
   all_ground [] [] d e = refl
   all_ground [] (v ∷ vs) d e = absurd d
   all_ground (t ∷ ts) [] d e = absurd d
   all_ground (t ∷ ts) (v ∷ vs) d e =
-      and_from (admits g t (rule.Basic basic.Gnd)) (list_all (λ p. p (rule.Basic basic.Gnd)) (map (admits g) ts)) (in_gnd g says t ((says.belongs t gnd).1 (in_has t v gnd d.0 (and_left _ _ e)))) (all_ground ts vs d.1 (and_right (has_name v gnd) _ e))
+      and_from (admits g t (rule.Basic basic.Gnd)) (list_all (λ p. p (rule.Basic basic.Gnd)) (map (admits g) ts)) (in_gnd g says t ((says.belongs t GND_TYPE).1 (in_has t v GND_TYPE d.0 (and_left _ _ e)))) (all_ground ts vs d.1 (and_right (has_name v GND_TYPE) _ e))
 
   all_admit : (ts : List Term) (vs : List TypeValue) (ns : List ℕ) → AreIn g ts vs → each_has vs ns ≡ true → admit_each g (map (admits g) ts) ns ≡ true
   all_admit [] [] [] d e = refl
@@ -126,9 +127,9 @@ module _ (g : Grammar) (says : Relied g) where
   in_term : (t : Term) → IsIn g t (of_name o term_name)
   in_term t = in_name t term_name (in_top g says t)
 
-  part_ground : (ts : List Term) (i : ℕ) → i < length ts → list_all (λ p. p (rule.Basic basic.Gnd)) (map (admits g) ts) ≡ true → Belongs g (slice_index_or ts i (Var 0)) gnd
+  part_ground : (ts : List Term) (i : ℕ) → i < length ts → list_all (λ p. p (rule.Basic basic.Gnd)) (map (admits g) ts) ≡ true → Belongs g (slice_index_or ts i (Var 0)) GND_TYPE
   part_ground [] i lt e = absurd (omega (arith, lt))
-  part_ground (t ∷ ts) zero lt e = (says.belongs t gnd).0 (gnd_in g says t (and_left _ _ e))
+  part_ground (t ∷ ts) zero lt e = (says.belongs t GND_TYPE).0 (gnd_in g says t (and_left _ _ e))
   part_ground (t ∷ ts) (suc i) lt e = part_ground ts i (omega (arith, lt)) (and_right (admits g t (rule.Basic basic.Gnd)) _ e)
 
   part_admitted : (ts : List Term) (ns : List ℕ) (i : ℕ) → i < length ts → admit_each g (map (admits g) ts) ns ≡ true → Belongs g (slice_index_or ts i (Var 0)) (slice_index_or ns i term_name)
@@ -150,7 +151,7 @@ module _ (g : Grammar) (says : Relied g) where
     in_leaf_part : (r : Rule) → admits_node g f (map (admits g) ts) r ≡ true → IsIn g part (leaf_part o f (length ts) i r)
     in_leaf_part (rule.Basic basic.Term) e = in_term part
     in_leaf_part (rule.Basic basic.Struct) e = in_term part
-    in_leaf_part (rule.Basic basic.Gnd) e = in_name part gnd (part_ground ts i lt e)
+    in_leaf_part (rule.Basic basic.Gnd) e = in_name part GND_TYPE (part_ground ts i lt e)
     in_leaf_part (rule.Node h ns) e =
         subst (λ b. IsIn g part (where_fits b (of_name o (slice_index_or ns i term_name)))) (sym (and_from (f == h) (length ns == length ts) (and_left _ _ e) (same_length ts ns (and_right (f == h) _ e))))
         (in_name part _ (part_admitted ts ns i lt (and_right (f == h) _ e)))

@@ -9,7 +9,8 @@ use Rattle.prog_data.specs.declared.grammars.Basic.TheVariants as basic
 use Rattle.prog_data.specs.declared.grammars.Rule.{Rule}
 use Rattle.prog_data.specs.declared.grammars.Rule.TheVariants as rule
 use Rattle.type_domain.specs.Laws.{LeqEach, AreOrdered, AreMonotone}
-use Rattle.name_order.specs.Relations.{gnd, Order}
+use Rattle.prog_data.specs.declared.basic_names.TheConstants.{GND_TYPE}
+use Rattle.name_order.specs.Relations.{Order}
 use Rattle.type_domain.proofs.Lists.{and_left, and_right, all_mono, any_mono}
 use Rattle.prog_data.specs.Values.{TypeValue}
 use Rattle.type_domain.specs.Values.{has_name, is_set, each_has, leaf_builds, build, where_fits, is_coherent, Leq, join, meet, is_inhabited, all_fit, unless_apart, names_of, meet_where, meet_parts, name_part, project}
@@ -85,11 +86,11 @@ all_set_leq [] (w ∷ ws) l s = absurd l
 all_set_leq (v ∷ vs) [] l s = absurd l
 all_set_leq (v ∷ vs) (w ∷ ws) l s = and_from (is_set w) (list_all is_set ws) (set_leq v w l.0 (and_left _ _ s)) (all_set_leq vs ws l.1 (and_right (is_set v) _ s))
 
-ground_leq : (vs ws : List TypeValue) → LeqEach vs ws → list_all is_set vs ≡ true → list_all (λ w. has_name w gnd) ws ≡ true → list_all (λ v. has_name v gnd) vs ≡ true
+ground_leq : (vs ws : List TypeValue) → LeqEach vs ws → list_all is_set vs ≡ true → list_all (λ w. has_name w GND_TYPE) ws ≡ true → list_all (λ v. has_name v GND_TYPE) vs ≡ true
 ground_leq [] [] l s e = refl
 ground_leq [] (w ∷ ws) l s e = absurd l
 ground_leq (v ∷ vs) [] l s e = absurd l
-ground_leq (v ∷ vs) (w ∷ ws) l s e = and_from (has_name v gnd) (list_all (λ v. has_name v gnd) vs) (has_leq v w gnd l.0 (and_left _ _ s) (and_left _ _ e)) (ground_leq vs ws l.1 (and_right (is_set v) _ s) (and_right (has_name w gnd) _ e))
+ground_leq (v ∷ vs) (w ∷ ws) l s e = and_from (has_name v GND_TYPE) (list_all (λ v. has_name v GND_TYPE) vs) (has_leq v w GND_TYPE l.0 (and_left _ _ s) (and_left _ _ e)) (ground_leq vs ws l.1 (and_right (is_set v) _ s) (and_right (has_name w GND_TYPE) _ e))
 
 each_leq : (vs ws : List TypeValue) (ns : List ℕ) → LeqEach vs ws → list_all is_set vs ≡ true → each_has ws ns ≡ true → each_has vs ns ≡ true
 each_leq [] [] ns l s e = e

@@ -1,13 +1,13 @@
-pub mod BitLaws
-pub mod EachHas
-pub mod Given
-pub mod InLaws
-pub mod LeafLists
-pub mod LeqLaws
-pub mod Lists
-pub mod MoreNames
-pub mod NameLoops
-pub mod Orders
-pub mod Parts
-pub mod Stored
-pub mod TermLeaves
+mod BitLaws
+mod EachHas
+mod Given
+mod InLaws
+mod LeafLists
+mod LeqLaws
+mod Lists
+mod MoreNames
+mod NameLoops
+mod Orders
+mod Parts
+mod Stored
+mod TermLeaves

@@ -13,7 +13,8 @@ use Rattle.prog_data.specs.declared.grammars.Rule.TheVariants as rule
 use Rattle.prog_data.specs.declared.grammars.Grammar.{Grammar}
 use Rattle.prog_data.specs.Membership.{rules_of, is_leaf, unit_of, leaves_within, leaves, admit_each, admits, admits_step, belongs, Belongs, by_basic}
 use Rattle.prog_data.proofs.Leaves.{In, here, any_in, in_any}
-use Rattle.name_order.specs.Relations.{gnd, leaf_has, has_member, Order, order}
+use Rattle.prog_data.specs.declared.basic_names.TheConstants.{GND_TYPE}
+use Rattle.name_order.specs.Relations.{leaf_has, has_member, Order, order}
 use Rattle.type_domain.specs.Relied.{Relied}
 use Rattle.type_domain.proofs.Lists.{and_left, and_right}
 use Rattle.type_domain.proofs.Orders.{full_in, in_full, in_leaves, leaves_in}
@@ -27,13 +28,13 @@ module _ (g : Grammar) (says : Relied g) where
   abbrev o : Order
   o = order g
 
-  gnd_belongs : (t : Term) → belongs g t gnd ≡ admits g t (rule.Basic basic.Gnd)
-  gnd_belongs t = ap (list_any (admits g t)) (only_leaf g basic.Gnd gnd (length g.rules) says.gnd) ∙ or-false (admits g t (rule.Basic basic.Gnd))
+  gnd_belongs : (t : Term) → belongs g t GND_TYPE ≡ admits g t (rule.Basic basic.Gnd)
+  gnd_belongs t = ap (list_any (admits g t)) (only_leaf g basic.Gnd GND_TYPE (length g.rules) says.gnd) ∙ or-false (admits g t (rule.Basic basic.Gnd))
 
-  pub in_gnd : (t : Term) → belongs g t gnd ≡ true → admits g t (rule.Basic basic.Gnd) ≡ true
+  pub in_gnd : (t : Term) → belongs g t GND_TYPE ≡ true → admits g t (rule.Basic basic.Gnd) ≡ true
   in_gnd t e = sym (gnd_belongs t) ∙ e
 
-  pub gnd_in : (t : Term) → admits g t (rule.Basic basic.Gnd) ≡ true → belongs g t gnd ≡ true
+  pub gnd_in : (t : Term) → admits g t (rule.Basic basic.Gnd) ≡ true → belongs g t GND_TYPE ≡ true
   gnd_in t e = gnd_belongs t ∙ e
 
   pub term_leaf : In (rule.Basic basic.Term) (o.leaves 0)

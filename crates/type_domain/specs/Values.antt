@@ -6,7 +6,8 @@ use Rattle.prog_data.specs.declared.grammars.Rule.{Rule}
 use Rattle.prog_data.specs.declared.grammars.Rule.TheVariants.{Basic as BasicRule, Node}
 use Rattle.prog_data.specs.Values.{TypeValue}
 use Rattle.prog_data.specs.Membership.{admits_int, admits_atom}
-use Rattle.name_order.specs.Relations.{gnd, names_below, Order}
+use Rattle.prog_data.specs.declared.basic_names.TheConstants.{GND_TYPE}
+use Rattle.name_order.specs.Relations.{names_below, Order}
 
 -- the name term
 abbrev pub term_name : ℕ
@@ -105,7 +106,7 @@ each_has (v ∷ vs) (n ∷ ns) = has_name v n && each_has vs ns
 abbrev pub leaf_builds : ℕ → List TypeValue → Rule → Bool
 leaf_builds f vs (BasicRule basic.Term) = true
 leaf_builds f vs (BasicRule basic.Struct) = true
-leaf_builds f vs (BasicRule basic.Gnd) = list_all (λ v. has_name v gnd) vs
+leaf_builds f vs (BasicRule basic.Gnd) = list_all (λ v. has_name v GND_TYPE) vs
 leaf_builds f vs (Node h ns) = (f == h) && each_has vs ns
 leaf_builds f vs other = false
 
@@ -122,7 +123,7 @@ build o f vs = where_fits (list_all is_set vs) (Some (λ n. list_any (leaf_build
 abbrev pub leaf_part : Order → ℕ → ℕ → ℕ → Rule → TypeValue
 leaf_part o f arity part (BasicRule basic.Term) = of_name o term_name
 leaf_part o f arity part (BasicRule basic.Struct) = of_name o term_name
-leaf_part o f arity part (BasicRule basic.Gnd) = of_name o gnd
+leaf_part o f arity part (BasicRule basic.Gnd) = of_name o GND_TYPE
 leaf_part o f arity part (Node h ns) = where_fits ((f == h) && (length ns == arity)) (of_name o (slice_index_or ns part term_name))
 leaf_part o f arity part other = None
 

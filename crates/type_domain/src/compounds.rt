@@ -8,14 +8,11 @@ ghost use Rattle.type_domain.specs.Values.{IsValue, names_of, is_set, build, lea
 
 use crate::bits::has;
 use crate::laws::given_law;
-use crate::leaves::{GND, Wanted, names_with};
+use crate::leaves::{Wanted, names_with};
 use crate::lookups::leaves;
 use crate::values::{join, meet, of_name};
 use name_order::Relations;
-use prog_data::{Basic, Grammar, Rule, Value};
-
-// The number of the name term, which has every term.
-const TERM: u64 = 0;
+use prog_data::{Basic, GND_TYPE, Grammar, Rule, TERM_TYPE, Value};
 
 // Whether no value is none.
 fn all_set(parts: &[Value]) -> bool
@@ -62,8 +59,8 @@ fn leaf_part(rel: &Relations, leaf: &Rule, place: Place) -> Value
     rel.range();
     match leaf {
         Rule::Basic(basic) => match basic {
-            Basic::Term | Basic::Struct => of_name(rel, TERM),
-            Basic::Gnd => of_name(rel, GND),
+            Basic::Term | Basic::Struct => of_name(rel, TERM_TYPE),
+            Basic::Gnd => of_name(rel, GND_TYPE),
             Basic::Int | Basic::Nnegint | Basic::Atm => Value { names: None },
         },
         Rule::Node(other, names) => {
@@ -123,7 +120,7 @@ fn met_parts(rel: &Relations, words: &[u64; 8], place: Place, size: u64) -> Valu
     ensures { seen result ≡ meet_parts (order rel.now) (bit_at words.now) (name_part (order rel.now) place.name place.arity place.part) (names_of (order rel.now)) }
 {
     rel.range();
-    let mut met = of_name(rel, TERM);
+    let mut met = of_name(rel, TERM_TYPE);
     let mut left = size;
     while left > 0 {
         left -= 1;

@@ -3,7 +3,8 @@ ghost use Rattle.std.specs.Prelude.{◌≡◌, ◌<◌, nat_lt, length, map, tru
 ghost use Rattle.std.specs.List.{list_any, list_all};
 ghost use Rattle.prog_data.specs.GrammarRange.{is_rule_of};
 ghost use Rattle.prog_data.specs.Values.{bit_at, seen};
-ghost use Rattle.name_order.specs.Relations.{gnd, order};
+ghost use Rattle.prog_data.specs.declared.basic_names.TheConstants.{GND_TYPE};
+ghost use Rattle.name_order.specs.Relations.{order};
 ghost use Rattle.type_domain.specs.Values.{has_name, each_has, leaf_builds};
 ghost use Rattle.type_domain.specs.Wanted.{has_wanted};
 
@@ -11,10 +12,7 @@ use crate::bits::has;
 use crate::lookups::leaves;
 use crate::sets::put_where;
 use name_order::{Relations, admits_atom, admits_int};
-use prog_data::{Basic, Grammar, Rule, Value};
-
-/// The number of the name gnd, which has all terms without variables.
-pub(crate) const GND: u64 = 5;
+use prog_data::{Basic, GND_TYPE, Grammar, Rule, Value};
 
 /// What a leaf is asked for: a constant, or the compounds of a name whose parts are in given values.
 #[derive(Clone, Copy, Drop)]
@@ -37,10 +35,10 @@ pub(crate) fn has_name(value: &Value, name: u64) -> bool
 
 // Whether each value has the name gnd.
 fn all_ground(parts: &[Value]) -> bool
-    ensures { result ≡ list_all (λ v. has_name v gnd) (map seen parts.now) }
+    ensures { result ≡ list_all (λ v. has_name v GND_TYPE) (map seen parts.now) }
 {
     for part in parts {
-        if !has_name(part, GND) {
+        if !has_name(part, GND_TYPE) {
             return false;
         }
     }

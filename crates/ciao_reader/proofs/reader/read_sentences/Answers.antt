@@ -1,16 +1,5 @@
-use Rattle.std.proofs.Common.{sym, subst}
-use Rattle.term_core.specs.Standard.{standard}
-use Rattle.ciao_reader.specs.Faults.{FirstFaultOr, IsFaultOf}
-use Rattle.ciao_reader.proofs.TextFaults.{tokens_fault, sentences_fault}
-use Rattle.std.proofs.lemmas.Result.{IfErr-weaker}
+use Rattle.std.proofs.lemmas.Result.{IfOk-weaker}
 use Rattle.ciao_reader.proofs.reader.read_sentences.Goals as goal
 
-pub returns-in-Ok-clause-fault : goal.returns-in-Ok-clause-fault
-returns-in-Ok-clause-fault c =
-    IfErr-weaker c.read_all.result _ _
-    (λ fault w. sentences_fault c.args.bytes.now c.args.names.now c.tokens.new.names c.in-Ok.tokens c.in-Ok.ensures.ok fault
-    (subst (λ ts. FirstFaultOr c.tokens.new.names standard ts fault) c.as_slice.ensures w))
-    c.read_all.ensures.err
-
-pub returns-in-Err-clause-fault : goal.returns-in-Err-clause-fault
-returns-in-Err-clause-fault c = subst (IsFaultOf c.args.bytes.now c.args.names.now) (sym c.of_text.ensures) (tokens_fault c.args.bytes.now c.args.names.now c.in-Err.fault c.in-Err.ensures.fault)
+pub returns-clause-in_range : goal.returns-clause-in_range
+returns-clause-in_range c = IfOk-weaker c.read_source.result _ _ (λ source has. c.in_range_law.ensures.sentences c.args.bytes.now c.args.names.now c.read_source.new.names source c.len.ensures.begins has) c.read_source.ensures.ok
