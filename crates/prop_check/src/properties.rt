@@ -1,22 +1,10 @@
 // When properties hold of arguments.
 ghost use Rattle.std.specs.Prelude.{◌≡◌};
-ghost use Rattle.term_core.specs.Terms.{is_variable};
-ghost use Rattle.term_core.specs.declared.terms.Term.{out-Term};
 ghost use Rattle.prog_data.specs.Conditions.{holds, all_hold};
 
 use crate::membership::{belongs, is_ground};
 use prog_data::{Grammar, Prop};
 use term_core::Term;
-
-// Whether the term is a variable.
-fn is_variable(term: &Term) -> bool
-    ensures { result ≡ is_variable (out-Term term.now) }
-{
-    match term {
-        Term::Var(_) => true,
-        Term::Int(_) | Term::Atom(_) | Term::Node(_, _) => false,
-    }
-}
 
 /// Whether the property holds of the arguments. No variable is bound.
 pub fn holds(grammar: &Grammar, property: &Prop, args: &[Term]) -> bool
@@ -28,11 +16,11 @@ pub fn holds(grammar: &Grammar, property: &Prop, args: &[Term]) -> bool
             None => false,
         },
         Prop::IsVar(argument) => match args.get(*argument as usize) {
-            Some(term) => is_variable(term),
+            Some(term) => term.is_variable(),
             None => false,
         },
         Prop::IsNonvar(argument) => match args.get(*argument as usize) {
-            Some(term) => !is_variable(term),
+            Some(term) => !term.is_variable(),
             None => false,
         },
         Prop::IsGround(argument) => match args.get(*argument as usize) {

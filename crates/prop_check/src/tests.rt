@@ -4,7 +4,7 @@ use prog_data::{Grammar, Prop, Rule, basic_grammar};
 use sqlite_items::Items;
 use std::alloc::Global;
 use std::test::Fail;
-use term_core::{NoMemory, Term};
+use term_core::{CELL, NIL, NoMemory, Term};
 
 // A row for each of the names of the grammar, and for var, nonvar and ground: 1 where it holds of the argument in this place.
 const ROWS: [&str; 16] = [
@@ -36,8 +36,8 @@ fn rules(alloc: Global, first: Rule, second: Rule) -> Result<Items<Rule>, NoMemo
 // The basic names, then lists of integers (10), a name that leads to itself alone (11), and 7 with the name 10 (12).
 fn grammar(alloc: Global) -> Result<Grammar, NoMemory> {
     let mut grammar = basic_grammar(alloc)?;
-    let cell = Rule::Node(1, Items::from_slice(alloc, &[1, 10])?);
-    grammar.rules.push(rules(alloc, Rule::Atom(0), cell)?)?;
+    let cell = Rule::Node(CELL, Items::from_slice(alloc, &[1, 10])?);
+    grammar.rules.push(rules(alloc, Rule::Atom(NIL), cell)?)?;
     grammar
         .rules
         .push(rules(alloc, Rule::Unit(11), Rule::Unit(11))?)?;
@@ -57,7 +57,7 @@ fn cell(alloc: Global, head: Term, tail: Term) -> Result<Term, NoMemory> {
     let mut parts = Items::new(alloc);
     parts.push(head)?;
     parts.push(tail)?;
-    Ok(Term::Node(1, parts))
+    Ok(Term::Node(CELL, parts))
 }
 
 // X, 7, -7, a, f(X), f(a), [], [7], [7|X] and [a].
@@ -69,10 +69,10 @@ fn arguments(alloc: Global) -> Result<Items<Term>, NoMemory> {
     args.push(Term::Atom(80))?;
     args.push(compound(alloc, 81, Term::Var(0))?)?;
     args.push(compound(alloc, 81, Term::Atom(80))?)?;
-    args.push(Term::Atom(0))?;
-    args.push(cell(alloc, Term::Int(7), Term::Atom(0))?)?;
+    args.push(Term::Atom(NIL))?;
+    args.push(cell(alloc, Term::Int(7), Term::Atom(NIL))?)?;
     args.push(cell(alloc, Term::Int(7), Term::Var(0))?)?;
-    args.push(cell(alloc, Term::Atom(80), Term::Atom(0))?)?;
+    args.push(cell(alloc, Term::Atom(80), Term::Atom(NIL))?)?;
     Ok(args)
 }
 
