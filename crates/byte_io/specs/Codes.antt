@@ -1,4 +1,5 @@
 -- How the logic stores the reads that were made. No statement rests on it.
+-- The headline does not rest on this file.
 use Rattle.std.specs.Prelude.{◌≡◌, ℕ, Bool, true, false, List, Option, Result, refl}
 use Rattle.std.specs.Coded.{Coded, code_by, coded×, coded_ℕ, coded_bool, coded_list, coded_option, coded_result}
 use Rattle.byte_io.specs.Outside.{FileRead}

@@ -1,4 +1,5 @@
 -- What files and a sink in memory hold.
+-- The headline does not rest on this file.
 use Rattle.std.specs.Prelude.{ℕ, Bool, true, false, nat_eq, List, [], ◌∷◌, Option, Some, None, if◌then◌else◌, bytes_eq}
 use Rattle.std.specs.List.{list_any}
 use Rattle.byte_io.specs.Outside.{Held, FileRead}

@@ -1,4 +1,5 @@
 -- The laws of reading.
+-- The headline does not rest on this file.
 use Rattle.std.specs.Prelude.{◌≡◌, ℕ, zero, suc, List, [], ◌∷◌, ◌++◌}
 use Rattle.term_core.specs.Terms.{vars}
 use Rattle.term_core.specs.declared.operators.Operators.{Operators}

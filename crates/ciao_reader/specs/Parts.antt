@@ -1,4 +1,5 @@
 -- What is kept of a derivation while a sentence is read: its term, as long as it is not too deep.
+-- The headline does not rest on this file.
 use Rattle.std.specs.Prelude.{◌≡◌, ℕ, ◌+◌, nat_le, max, pos, List, [], ◌∷◌, if◌then◌else◌}
 use Rattle.term_core.specs.declared.fixed.TheConstants as fixed
 use Rattle.term_core.specs.declared.terms.Term.{Term}

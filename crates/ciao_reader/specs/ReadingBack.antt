@@ -1,4 +1,5 @@
 -- The law that what is printed with quotes is read again.
+-- The headline does not rest on this file.
 use Rattle.std.specs.Prelude.{◌≡◌, ◌≤◌, ℕ, ◌^◌, Bool, true, ◌&&◌, nat_lt, nat_le, nat_eq, ℤ, pos, negsuc, List, [], length, slice_index_or, bytes_eq, IsUtf8}
 use Rattle.std.specs.List.{list_all, position_or_len, IsDistinct}
 use Rattle.term_core.specs.Names.{fixed_names}

@@ -1,4 +1,5 @@
 -- One step of the reading of a sentence: what comes of the next words, and of what waits for a term, the newest first.
+-- The headline does not rest on this file.
 use Rattle.std.specs.Prelude.{ℕ, ◌&&◌, ◌||◌, ◌==◌, nat_le, max, pos, neg_ℤ, List, [], ◌∷◌, ◌++◌, length, drop, Option, Some, None, if◌then◌else◌}
 use Rattle.term_core.specs.declared.fixed.TheConstants as fixed
 use Rattle.term_core.specs.declared.terms.Term.{Term}

@@ -210,8 +210,8 @@ pub fn read_sentences(alloc: Global, names: &mut Names, bytes: &[u8]) -> Result<
     ensures kept { IsPrefix names.old names.new }
 {
     // Each says what holds of all: of names, of what is read.
-    let _ = names.len();
-    in_range_law();
+    let _ = names.len(); // for the proof
+    in_range_law(); // for the proof
     read_source(alloc, names, bytes)
 }
 
@@ -246,10 +246,10 @@ pub fn read_goal(
     ensures reads_back { (t : Term) → is_readable (length names.old) t ≡ true → text.now ≡ Printed names.old ops.now true t → IsShallow ops.now text.now names.old → MatchResult result (λ goal. goal.term ≡ numbered_from_zero t) (λ fault. fault ≡ ReadFault.NoMemory) }
 {
     // Each says what holds of all: of names, of tables of operators, of what is written, of what is read.
-    let _ = names.len();
+    let _ = names.len(); // for the proof
     ops.made();
-    written_law();
-    in_range_law();
+    written_law(); // for the proof
+    in_range_law(); // for the proof
     read_text(alloc, names, ops, text)
 }
 

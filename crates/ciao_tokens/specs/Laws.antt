@@ -1,4 +1,5 @@
 -- The laws of tokens.
+-- The headline does not rest on this file.
 use Rattle.std.specs.Prelude.{◌≡◌, ◌<◌, ◌≤◌, ◌⊎◌, ◌↔◌, ℕ, ◌+◌, ◌==◌, not, List, [], ◌∷◌, length, take}
 use Rattle.ciao_tokens.specs.Pieces.{Piece, Cut}
 use Rattle.ciao_tokens.specs.Tokens.{line_feeds, HasTokens}

@@ -1,4 +1,5 @@
 -- What the scanner reads between quotes.
+-- The headline does not rest on this file.
 use Rattle.std.specs.Prelude.{◌≡◌, ◌≤◌, ℕ, List, [], ◌∷◌, ◌++◌, length, Option, Some, None, IsUtf8}
 use Rattle.std.specs.Char.{IsScalar}
 use Rattle.ciao_tokens.specs.Quotes.{Part, Inside, value_of}

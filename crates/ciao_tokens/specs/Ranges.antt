@@ -1,4 +1,5 @@
 -- Tokens in range.
+-- The headline does not rest on this file.
 use Rattle.std.specs.Prelude.{◌<◌, ⊤, ℕ, List, length}
 use Rattle.std.specs.List.{AllByRecursion}
 use Rattle.term_core.specs.Lists.{IsPrefix}

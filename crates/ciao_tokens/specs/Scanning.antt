@@ -1,4 +1,5 @@
 -- What the scanner finds at the front of a text.
+-- The headline does not rest on this file.
 use Rattle.std.specs.Prelude.{◌≡◌, ◌<◌, ◌≤◌, ◌^◌, ◌&&◌, ◌==◌, not, ℕ, suc, Bool, List, [], ◌∷◌, take, drop, Option, Some, None, option_map, if◌then◌else◌, string_bytes, IsUtf8}
 use Rattle.std.specs.List.{prefix_len}
 use Rattle.ciao_tokens.specs.Forms.{name, quoted, variable, number, text, mark, stop, starts}

@@ -1,4 +1,5 @@
 -- Where the scanner stands, and where it stands behind one piece more.
+-- The headline does not rest on this file.
 use Rattle.std.specs.Prelude.{⊤, ◌≡◌, ◌++◌, ℕ, ◌+◌, Bool, true, false, List, [], ◌∷◌, Option, Some, None, option_map, string_bytes}
 use Rattle.term_core.specs.Names.{with_texts}
 use Rattle.ciao_tokens.specs.Forms.{Shape, name, quoted, variable, number, text, mark, stop}

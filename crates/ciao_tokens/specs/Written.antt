@@ -1,4 +1,5 @@
 -- What is written as a token is that token, before nothing, a blank or a mark.
+-- The headline does not rest on this file.
 use Rattle.std.specs.Prelude.{◌≡◌, ◌≤◌, ◌^◌, ℕ, true, false, ◌==◌, List, ◌∷◌, ◌++◌, length, codes, decimal, IsUtf8}
 use Rattle.std.specs.List.{list_any}
 use Rattle.term_core.specs.Lists.{IsPrefix}

@@ -1,4 +1,5 @@
 -- The numbers of names that definitions of sentences cite, and their texts.
+-- The headline does not rest on this file.
 use Rattle.std.specs.Prelude.{◌≡◌, ℕ, suc, Bool, List, [], ◌∷◌, if◌then◌else◌, slice_get, Option, Some, None, codes}
 use Rattle.term_core.specs.Names.{fixed_names}
 use Rattle.term_core.specs.declared.fixed.TheConstants.{COMMA, NECK}

@@ -1,4 +1,5 @@
 -- What the inner functions of the tool answer.
+-- The headline does not rest on this file.
 use Rattle.std.specs.Prelude.{◌≡◌, ◌≤◌, ℕ, Bool, List, [], ◌∷◌, ◌++◌, take, Option, Some, None, IfSome, codes}
 use Rattle.byte_io.specs.Outside.{Held, grown, StaysSteady}
 use Rattle.term_core.specs.declared.terms.Term.{Term}

@@ -1,4 +1,5 @@
 -- What the reading of a file gives, step by step: the sentences behind the directive, all sentences, the text.
+-- The headline does not rest on this file.
 use Rattle.std.specs.Prelude.{◌≡◌, ℕ, Bool, true, false, ◌++◌, ◌∷◌, List}
 use Rattle.std.specs.List.{AllZip}
 use Rattle.ciao_reader.specs.declared.sentences.Sentence.{Sentence}

@@ -1,4 +1,5 @@
 -- The program without its conditions.
+-- The headline does not rest on this file.
 use Rattle.std.specs.Prelude.{◌≡◌, ℕ, false, [], map}
 use Rattle.std.specs.List.{AllByRecursion}
 use Rattle.prog_data.specs.declared.programs.Clause.{Clause}

@@ -1,4 +1,5 @@
 -- The program with call checks and Exit goals for exactly the conditions that are kept.
+-- The headline does not rest on this file.
 use Rattle.std.specs.Prelude.{ℕ, Bool, true, false, not, List, [], ◌∷◌, ◌++◌, map, filter, slice_get, Option, Some, if◌then◌else◌}
 use Rattle.prog_data.specs.declared.goals.Goal.{Goal, out-Goal}
 use Rattle.prog_data.specs.declared.goals.Goal as goal

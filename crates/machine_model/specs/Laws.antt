@@ -1,4 +1,5 @@
 -- The laws that functions of this crate carry.
+-- The headline does not rest on this file.
 use Rattle.std.specs.Prelude.{◌≡◌, ◌≤◌, ◌↔◌, ℕ, ◌+◌, Bool, List, [], ◌∷◌, ◌++◌, filter, not, Some, true, false}
 use Rattle.term_core.specs.declared.terms.Term.{Term, out-Term}
 use Rattle.prog_data.specs.declared.events.Event.{Event}

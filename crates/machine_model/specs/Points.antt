@@ -1,4 +1,5 @@
 -- The states in which a condition is due, and what tables and statuses say of them.
+-- The headline does not rest on this file.
 use Rattle.std.specs.Prelude.{◌≡◌, ◌<◌, ℕ, Bool, true, false, List, ◌∷◌, map, slice_get, Option, Some, Contains, IsTrue}
 use Rattle.term_core.specs.declared.terms.Term.{Term, out-Term}
 use Rattle.prog_data.specs.declared.goals.Goal.{out-Goal}

@@ -1,4 +1,5 @@
 -- Least and greatest tests, and how they are computed.
+-- The headline does not rest on this file.
 use Rattle.std.specs.Prelude.{◌≡◌, ℕ, zero, suc, ◌==◌, Bool, true, false, ◌&&◌, not, List, length, filter}
 use Rattle.std.specs.List.{list_any}
 

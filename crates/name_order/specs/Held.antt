@@ -1,4 +1,5 @@
 -- What the tables of a grammar hold.
+-- The headline does not rest on this file.
 use Rattle.std.specs.Prelude.{◌≡◌, ℕ, Bool, List}
 use Rattle.std.specs.List.{list_any}
 use Rattle.prog_data.specs.declared.grammars.Rule.{Rule}

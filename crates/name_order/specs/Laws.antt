@@ -1,4 +1,5 @@
 -- What the relations of names mean for terms, and how they are ordered.
+-- The headline does not rest on this file.
 use Rattle.std.specs.Prelude.{◌↔◌, ◌<◌, ℕ, length}
 use Rattle.term_core.specs.declared.terms.Term.{Term}
 use Rattle.prog_data.specs.Membership.{Belongs}

@@ -1,4 +1,5 @@
 -- Members, below and meets, for the names of a grammar.
+-- The headline does not rest on this file.
 use Rattle.std.specs.Prelude.{◌≡◌, ◌↔◌, ℕ, zero, suc, ◌+◌, nat_lt, ◌==◌, nat_eq, Bool, true, false, ◌&&◌, not, List, [], ◌∷◌, map, flat_map, filter, length, slice_index_or}
 use Rattle.std.specs.List.{list_any, list_all}
 use Rattle.prog_data.specs.declared.grammars.Basic.{Basic}

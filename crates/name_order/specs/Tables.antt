@@ -1,4 +1,5 @@
 -- Relations on names as tables of bits, and what is marked in them, pass by pass.
+-- The headline does not rest on this file.
 use Rattle.std.specs.Prelude.{◌≡◌, ◌↔◌, ◌<◌, ℕ, ◌+◌, ◌*◌, ◌-◌, ◌==◌, Bool, true, false, ◌&&◌, ◌||◌, not, cond, List, [], ◌∷◌, map, flat_map, filter, length, slice_index_or}
 use Rattle.std.specs.List.{list_any, list_all}
 use Rattle.prog_data.specs.declared.grammars.Rule.{Rule}

@@ -106,6 +106,6 @@ impl Relations {
     pub fn range(&self)
         ensures { IsGrammar self.now }
     {
-        let _ = &self.grammar;
+        let _ = &self.grammar; // for the proof
     }
 }

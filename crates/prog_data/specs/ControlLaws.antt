@@ -1,4 +1,5 @@
 -- What is true of the table of control and built-ins.
+-- The headline does not rest on this file.
 use Rattle.std.specs.Prelude.{◌≡◌, ◌<◌, ℕ, ◌==◌, ◌+◌, Bool, true, ◌&&◌, not, List, [], ◌∷◌, Some}
 use Rattle.std.specs.List.{list_any, list_all}
 use Rattle.term_core.specs.declared.fixed.TheConstants.{TERM}

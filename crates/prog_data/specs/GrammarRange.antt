@@ -1,4 +1,5 @@
 -- Which lists of rules are a program's grammar.
+-- The headline does not rest on this file.
 use Rattle.std.specs.Prelude.{◌≡◌, ◌≤◌, ℕ, nat_lt, Bool, true, List, [], ◌∷◌, length, take}
 use Rattle.std.specs.List.{list_all}
 use Rattle.prog_data.specs.declared.grammars.Rule.{Rule}

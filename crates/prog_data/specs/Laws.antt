@@ -1,4 +1,5 @@
 -- What stays true when variables of terms are bound.
+-- The headline does not rest on this file.
 use Rattle.std.specs.Prelude.{◌≡◌, ◌↔◌, ℕ, Bool, true, false, List, map}
 use Rattle.std.specs.List.{list_any}
 use Rattle.term_core.specs.declared.terms.Term.{Term}

@@ -1,4 +1,5 @@
 -- What is in range of a program stays so.
+-- The headline does not rest on this file.
 use Rattle.std.specs.Prelude.{◌≡◌, ◌<◌, ℕ, true, false, List, [], length, slice_get, Some, Contains}
 use Rattle.term_core.specs.declared.terms.Term.{Term}
 use Rattle.term_core.specs.Names.{fixed_names}

@@ -1,4 +1,5 @@
 -- Which terms, goals, clauses and conditions are in range of a program.
+-- The headline does not rest on this file.
 use Rattle.std.specs.Prelude.{ℕ, ◌==◌, nat_lt, nat_le, Bool, true, false, ◌&&◌, List, [], ◌∷◌, length}
 use Rattle.std.specs.List.{list_all}
 use Rattle.term_core.specs.declared.terms.Term.{Term, out-Term}

@@ -1,4 +1,5 @@
 -- What an analysis knows of an argument: none, or grammar names to which it belongs.
+-- The headline does not rest on this file.
 use Rattle.std.specs.Prelude.{◌≡◌, ℕ, ◌==◌, ◌/◌, ◌%◌, ◌^◌, Bool, true, List, [], ◌∷◌, slice_index_or, Option, None, Some, option_map}
 use Rattle.term_core.specs.declared.terms.Term.{Term}
 use Rattle.prog_data.specs.declared.grammars.Grammar.{Grammar}

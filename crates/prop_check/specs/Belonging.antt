@@ -1,4 +1,5 @@
 -- What a rule admits, by at most so many unit rules.
+-- The headline does not rest on this file.
 use Rattle.std.specs.Prelude.{ℕ, zero, suc, Bool, false}
 use Rattle.std.specs.List.{list_any}
 use Rattle.term_core.specs.declared.terms.Term.{Term}

@@ -1,14 +1,14 @@
-pub mod Alikes
-pub mod Bindings
-pub mod Builts
-pub mod Calling
-pub mod BindingLoops
-pub mod Filters
-pub mod Lists
-pub mod PairLemmas
-pub mod Reducing
-pub mod Simplifying
-pub mod Starting
-pub mod Steps
-pub mod Telling
-pub mod Trying
+mod Alikes
+mod Bindings
+mod Builts
+mod Calling
+mod BindingLoops
+mod Filters
+mod Lists
+mod PairLemmas
+mod Reducing
+mod Simplifying
+mod Starting
+mod Steps
+mod Telling
+mod Trying

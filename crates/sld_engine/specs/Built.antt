@@ -1,4 +1,5 @@
 -- The programs that the engine runs.
+-- The headline does not rest on this file.
 use Rattle.std.specs.Prelude.{ℕ, Bool, true, false, not, ◌&&◌}
 use Rattle.std.specs.List.{list_all}
 use Rattle.prog_data.specs.declared.goals.Goal.{Goal}

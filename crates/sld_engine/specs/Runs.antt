@@ -1,4 +1,5 @@
 -- What contracts see of a run.
+-- The headline does not rest on this file.
 use Rattle.std.specs.Prelude.{◌≡◌, ℕ, List, Option, Some, option_map}
 use Rattle.term_core.specs.declared.terms.Term.{Term}
 use Rattle.prog_data.specs.declared.programs.Program.{Program}

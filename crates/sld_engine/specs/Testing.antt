@@ -1,4 +1,5 @@
 -- What the engine tests at calls and exits.
+-- The headline does not rest on this file.
 use Rattle.std.specs.Prelude.{ℕ, Bool, not, ◌&&◌, List, filter, find, Option}
 use Rattle.term_core.specs.declared.terms.Term.{Term}
 use Rattle.prog_data.specs.declared.programs.Program.{Program}

@@ -1,4 +1,5 @@
 -- What the code's stacks are: their last is the next.
+-- The headline does not rest on this file.
 use Rattle.std.specs.Prelude.{Bool, true, ◌&&◌, List, map, reverse, Option, None, Some}
 use Rattle.std.specs.List.{list_all}
 use Rattle.machine_model.specs.State.{Choice, Resume, Try, Mark, Current, Doing, Failed, State, Phase, Going, Over}

@@ -1,4 +1,4 @@
-pub mod Copies
+mod Copies
 pub mod Counting
 mod FixedNames
 pub mod KindLaws
@@ -10,7 +10,7 @@ pub mod OperatorTables
 mod OperatorTies
 mod OperatorTorn
 mod QuotingLemmas
-pub mod RangeLaws
+mod RangeLaws
 mod ShortLists
 mod SizeLaws
 pub mod Sizes

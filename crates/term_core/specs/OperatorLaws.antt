@@ -1,4 +1,5 @@
 -- What holds of each table that changes can make, and what a change does.
+-- The headline does not rest on this file.
 use Rattle.std.specs.Prelude.{◌≡◌, ◌<◌, ◌≤◌, ℕ, pos, Bool, true, false, not, ◌==◌, if◌then◌else◌, nat_eq, List, map, Option, Some, None}
 use Rattle.std.specs.List.{IsDistinct}
 use Rattle.term_core.specs.declared.operators.Op.{Op}

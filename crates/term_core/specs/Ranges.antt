@@ -1,4 +1,5 @@
 -- Terms in range: their names are among the names, their compounds have 1 to 255 arguments, their variables are below a number.
+-- The headline does not rest on this file.
 use Rattle.std.specs.Prelude.{◌≡◌, ◌≤◌, ◌<◌, ℕ, ◌+◌, nat_lt, nat_le, Bool, true, ◌&&◌, List, length}
 use Rattle.std.specs.List.{list_all, AllByRecursion}
 use Rattle.term_core.specs.declared.terms.Term.{Term}

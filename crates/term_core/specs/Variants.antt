@@ -1,4 +1,5 @@
 -- Equations that differ in the names of their variables alone.
+-- The headline does not rest on this file.
 use Rattle.std.specs.Prelude.{◌≡◌, ℕ, List, map, ⊤}
 use Rattle.term_core.specs.declared.terms.Term.{Term}
 use Rattle.term_core.specs.declared.equations.Equation.{Equation}

@@ -155,7 +155,7 @@ impl OpTable {
     pub fn made(&self)
         ensures { IsMade self.now }
     {
-        let _ = &self.operators;
+        let _ = &self.operators; // for the proof
     }
 
     /// The prefix operator that a name is.

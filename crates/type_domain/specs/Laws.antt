@@ -1,4 +1,5 @@
 -- What is claimed of values.
+-- The headline does not rest on this file.
 use Rattle.std.specs.Prelude.{◌≡◌, ◌⊎◌, ℕ, ◌<◌, true, List, [], ◌∷◌, length, slice_index_or, ℤ}
 use Rattle.std.specs.List.{AllByRecursion}
 use Rattle.term_core.specs.declared.terms.Term.{Term}

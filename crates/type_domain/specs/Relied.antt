@@ -1,4 +1,5 @@
 -- What is relied on of the names of a grammar: public laws of prog_data and name_order.
+-- The headline does not rest on this file.
 use Rattle.std.specs.Prelude.{◌≡◌, ◌↔◌, ℕ, true}
 use Rattle.term_core.specs.declared.terms.Term.{Term}
 use Rattle.prog_data.specs.Membership.{belongs, Belongs}

@@ -1,4 +1,5 @@
 -- Values of terms: none, or names that a term is known to belong to.
+-- The headline does not rest on this file.
 use Rattle.std.specs.Prelude.{◌≡◌, ℕ, ◌<◌, ◌==◌, Bool, true, false, ◌&&◌, ◌||◌, not, List, [], ◌∷◌, map, length, slice_index_or, None, Some, ℤ}
 use Rattle.std.specs.List.{list_any, list_all}
 use Rattle.prog_data.specs.declared.grammars.Basic.TheVariants as basic

@@ -1,4 +1,5 @@
 -- What the code asks the leaves for, in one form.
+-- The headline does not rest on this file.
 use Rattle.std.specs.Prelude.{Bool, List}
 use Rattle.prog_data.specs.declared.grammars.Rule.{Rule}
 use Rattle.prog_data.specs.Values.{TypeValue}

@@ -33,7 +33,7 @@ pub fn build(grammar: &Grammar, rel: &Relations, name: u64, parts: &[Value]) -> 
     ensures held { AllByRecursion (IsValue (order rel.now)) (map seen parts.now) → IsValue (order rel.now) (seen result) }
 {
     rel.range();
-    given_law();
+    given_law(); // for the proof
     if !all_set(parts) {
         return Value { names: None };
     }
@@ -145,7 +145,7 @@ pub fn project(
     ensures held { IsValue (order rel.now) (seen result) }
 {
     rel.range();
-    given_law();
+    given_law(); // for the proof
     match &value.names {
         None => Value { names: None },
         Some(words) => {

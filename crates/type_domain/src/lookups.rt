@@ -15,7 +15,7 @@ pub(crate) fn is_below(rel: &Relations, first: u64, second: u64) -> bool
     requires second { second < length rel.now.rules }
     ensures { result ≡ (order rel.now).below first second }
 {
-    order_law();
+    order_law(); // for the proof
     rel.below(first, second)
 }
 
@@ -25,7 +25,7 @@ pub(crate) fn do_meet(rel: &Relations, first: u64, second: u64) -> bool
     requires second { second < length rel.now.rules }
     ensures { result ≡ (order rel.now).meets first second }
 {
-    order_law();
+    order_law(); // for the proof
     rel.meets(first, second)
 }
 
@@ -34,8 +34,8 @@ pub(crate) fn is_inhabited(rel: &Relations, name: u64) -> bool
     requires { name < length rel.now.rules }
     ensures { result ≡ is_inhabited ((order rel.now).leaves name) }
 {
-    order_law();
-    member_law();
+    order_law(); // for the proof
+    member_law(); // for the proof
     rel.has_member(name)
 }
 
@@ -47,6 +47,6 @@ pub(crate) fn leaves(rel: &Relations, name: u64) -> &[Rule]
     ensures few { list_all (is_rule_of 512) result.now ≡ true }
 {
     rel.range();
-    order_law();
+    order_law(); // for the proof
     rel.leaves(name)
 }

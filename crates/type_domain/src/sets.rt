@@ -23,7 +23,7 @@ pub(crate) fn above(rel: &Relations, name: u64) -> [u64; 8]
     requires { name < length rel.now.rules }
     ensures { bit_at result ≡ (order rel.now).below name }
 {
-    order_law();
+    order_law(); // for the proof
     let mut names = [0; 8];
     for other in 0..rel.len() {
         put_where(&mut names, other, is_below(rel, name, other));

@@ -18,7 +18,7 @@ pub fn of_name(rel: &Relations, name: u64) -> Value
     ensures held { IsValue (order rel.now) (seen result) }
 {
     rel.range();
-    given_law();
+    given_law(); // for the proof
     Value {
         names: Some(above(rel, name)),
     }
@@ -31,7 +31,7 @@ pub fn of_int(grammar: &Grammar, rel: &Relations, n: i64) -> Value
     ensures held { IsValue (order rel.now) (seen result) }
 {
     rel.range();
-    given_law();
+    given_law(); // for the proof
     Value {
         names: Some(names_with(grammar, rel, Wanted::Int(n), &[])),
     }
@@ -44,7 +44,7 @@ pub fn of_atom(grammar: &Grammar, rel: &Relations, atom: u64) -> Value
     ensures held { IsValue (order rel.now) (seen result) }
 {
     rel.range();
-    given_law();
+    given_law(); // for the proof
     Value {
         names: Some(names_with(grammar, rel, Wanted::Atom(atom), &[])),
     }
