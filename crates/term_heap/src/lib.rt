@@ -1,0 +1,10 @@
+//! Terms as cells that changes made, which a trail takes back.
+#![tactic(auto)]
+
+mod cells;
+mod heap;
+mod loading;
+mod trails;
+
+pub use cells::Cell;
+pub use heap::{Heap, HeapMark};

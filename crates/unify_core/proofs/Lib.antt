@@ -1,0 +1,9 @@
+pub mod LeadLaws
+pub mod MeetLaws
+pub mod MetLaws
+pub mod OccursLaws
+pub mod PairLaws
+pub mod PairSizes
+pub mod PairSteps
+pub mod ReduceLaws
+pub mod UnifyLaws

@@ -1,0 +1,5 @@
+pub mod Leads
+pub mod Meets
+pub mod Places
+pub mod Reduces
+pub mod Unifies

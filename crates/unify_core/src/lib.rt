@@ -1,0 +1,11 @@
+//! Unification of places of a heap.
+#![tactic(auto)]
+
+mod meet;
+mod occurs;
+mod pairs;
+mod reduce;
+mod unifying;
+
+pub use unifying::Unified;
+pub use unifying::unify;
