@@ -1,4 +1,5 @@
 -- A heap as the changes that made it, the newest first: its cells, and the term of each place.
+-- The headline does not rest on this file.
 use Rattle.std.specs.Prelude.{◌≡◌, ℕ, zero, suc, ◌+◌, ◌==◌, ◌<◌, ◌≤◌, false, nat_le, List, [], ◌∷◌, ◌++◌, map, length, reverse, slice_index_or, slice_set, if◌then◌else◌, min, ◌^◌, ◌-◌, ⊤}
 use Rattle.term_core.specs.declared.terms.Term.{Term}
 use Rattle.term_core.specs.declared.terms.Term as term

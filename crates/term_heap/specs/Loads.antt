@@ -1,4 +1,5 @@
 -- Terms that are put into cells.
+-- The headline does not rest on this file.
 use Rattle.std.specs.Prelude.{◌≡◌, ℕ, ◌+◌, ◌<◌, ◌≤◌, true, List, [], ◌∷◌, ◌++◌, length, map, ⊤}
 use Rattle.std.specs.List.{AllByRecursion}
 use Rattle.term_core.specs.declared.terms.Term.{Term}

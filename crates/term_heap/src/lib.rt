@@ -3,8 +3,10 @@
 
 mod cells;
 mod heap;
+mod laws;
 mod loading;
 mod trails;
 
 pub use cells::Cell;
 pub use heap::{Heap, HeapMark};
+pub use laws::past_law;

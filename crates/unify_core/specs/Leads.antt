@@ -1,4 +1,5 @@
 -- Equations that are solved over a heap, where a binding of two variables may go either way.
+-- The headline does not rest on this file.
 use Rattle.std.specs.Prelude.{◌≡◌, ℕ, false, List, ◌∷◌, ◌++◌}
 use Rattle.term_core.specs.declared.terms.Term.{Term}
 use Rattle.term_core.specs.declared.equations.Equation.{Equation}

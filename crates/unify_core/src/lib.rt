@@ -7,5 +7,4 @@ mod pairs;
 mod reduce;
 mod unifying;
 
-pub use unifying::Unified;
-pub use unifying::unify;
+pub use unifying::{Unified, unify};
