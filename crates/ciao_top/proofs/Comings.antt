@@ -5,7 +5,7 @@ use Rattle.std.proofs.Math.Seq.{take-append-add, take-append_seam}
 use Rattle.byte_io.specs.Outside.{Rose, grown}
 use Rattle.ciao_top.specs.Words.{Word}
 use Rattle.ciao_top.specs.Answers.{IsPrefix}
-use Rattle.ciao_top.specs.InnerAnswers.{DeviceGoesOn, Only, HasBegun, Comes, Whole, SinkFailed, MemoryWanted, HasWritten}
+use Rattle.ciao_top.specs.InnerAnswers.{DeviceGoesOn, Only, GrewByFront, HasBegun, Comes, Whole, SinkFailed, MemoryWanted, HasWritten}
 
 -- what was written
 
