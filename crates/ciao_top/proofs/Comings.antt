@@ -2,10 +2,10 @@
 use Rattle.std.proofs.Common.{◌≡◌, ◌⊎◌, inl, inr, ℕ, Bool, ◌+◌, ◌≤◌, [], ◌++◌, take, length, min, refl, ◌∙◌, sym, ap, subst, Option, Some, None, arith, append-nil}
 use Rattle.std.proofs.lemmas.List.{append_assoc, take_min, take-append-le}
 use Rattle.std.proofs.Math.Seq.{take-append-add, take-append_seam}
-use Rattle.byte_io.specs.Outside.{Rose, grown, GrewByPrefix}
+use Rattle.byte_io.specs.Outside.{Rose, grown}
 use Rattle.ciao_top.specs.Words.{Word}
 use Rattle.ciao_top.specs.Answers.{IsPrefix}
-use Rattle.ciao_top.specs.InnerAnswers.{DeviceGoesOn, Only, HasBegun, Comes, Whole, SinkFailed, MemoryWanted, HasWritten}
+use Rattle.ciao_top.specs.InnerAnswers.{DeviceGoesOn, Only, GrewByFront, HasBegun, Comes, Whole, SinkFailed, MemoryWanted, HasWritten}
 
 -- what was written
 
@@ -98,7 +98,7 @@ pub only_same : (line line' : Word) (told : ℕ) (writing : Type 0) (old new : O
 only_same line line' told writing old new result same comes = subst (λ t. Comes (Only t told) writing old new result) same comes
 
 -- a prefix of it was written
-pub only_begun : (line : Word) (told : ℕ) (old new : Option Word) → GrewByPrefix old new line → HasBegun (Only line told) old new
+pub only_begun : (line : Word) (told : ℕ) (old new : Option Word) → GrewByFront old new line → HasBegun (Only line told) old new
 only_begun line told old new g = record { piece = take g.0 line; begins = λ t s d. (g.0, ap (take g.0) (sym d.0)); grew = g.1 }
 
 -- a piece and what comes behind it

@@ -2,7 +2,7 @@
 use Rattle.std.proofs.Common.{◌≡◌, ℕ, ◌+◌, List, [], ◌∷◌, ◌++◌, take, refl, ◌∙◌, sym, ap, subst, Option, Some, None, flat_map, MatchOption, IfNone, IsSome, is_some, true≢false}
 use Rattle.std.proofs.lemmas.List.{append_assoc}
 use Rattle.std.proofs.lemmas.Option.{none-some}
-use Rattle.byte_io.specs.Outside.{grown, GrewByPrefix}
+use Rattle.byte_io.specs.Outside.{grown}
 use Rattle.term_core.specs.declared.terms.Term.{Term}
 use Rattle.prog_data.specs.declared.programs.Program.{Program}
 use Rattle.prog_data.specs.declared.events.Event.{Event}
@@ -16,7 +16,7 @@ use Rattle.sld_engine.specs.Runs.{left_of, program_of, bound_of, Starts, HasTold
 use Rattle.ciao_top.specs.Words.{Word}
 use Rattle.ciao_top.specs.RunText.{RunText, event_text, ending_text, ending_status}
 use Rattle.ciao_top.specs.Answers.{IsPrefix}
-use Rattle.ciao_top.specs.InnerAnswers.{HasBegun, Comes, Whole, HasWritten, event_status, RunTells, GoesOn, CallAnswers, NotExported, Ran}
+use Rattle.ciao_top.specs.InnerAnswers.{GrewByFront, HasBegun, Comes, Whole, HasWritten, event_status, RunTells, GoesOn, CallAnswers, NotExported, Ran}
 use Rattle.ciao_top.proofs.Comings.{front_of_first, comes_as}
 
 -- what an option has is one
@@ -93,7 +93,7 @@ module _ (program : Program) (bound : ℕ) where
 
   tells_begun : (o : Option Left) (before after : Left) (event : Event) (made : ℕ) (old new : Option Word) → o ≡ Some before
       → Leads (every_condition program) program bound before (event ∷ []) made after
-      → GrewByPrefix old new (event_text program event) → HasBegun (RunTells program bound o) old new
+      → GrewByFront old new (event_text program event) → HasBegun (RunTells program bound o) old new
   tells_begun o before after event made old new was tells g = record {
     piece = take g.0 (event_text program event);
     begins = λ t s x.
@@ -113,7 +113,7 @@ module _ (program : Program) (bound : ℕ) where
 
   -- a prefix of the next event was written
   pub event_begun : (o n : Option Left) (event : Event) (old new : Option Word) → IsNextAt o event n
-      → GrewByPrefix old new (event_text program event) → HasBegun (RunTells program bound o) old new
+      → GrewByFront old new (event_text program event) → HasBegun (RunTells program bound o) old new
   event_begun o n (Out text) old new next g = tells_begun o next.before next.after (Out text) next.made old new next.was next.next g
   event_begun o n (Answer query) old new next g = tells_begun o next.before next.after (Answer query) next.made old new next.was next.next g
   event_begun o n (Broken c) old new next g = tells_begun o next.before next.after (Broken c) next.made old new next.was next.next g

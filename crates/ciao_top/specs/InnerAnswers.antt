@@ -30,6 +30,10 @@ pub record DeviceGoesOn (was is : Bool) (before now : ℕ) : Type 0 where
 abbrev pub Only : Word → ℕ → Word → ℕ → Type 0
 Only text status text' status' = (text' ≡ text) × (status' ≡ status)
 
+-- a prefix of the text was written and nothing else
+abbrev pub GrewByFront : Option Word → Option Word → Word → Type 0
+GrewByFront old new text = (count : ℕ) × (new ≡ grown old (take count text))
+
 -- what was written begins each text that the definition has
 pub record HasBegun (defined : Word → ℕ → Type 0) (old new : Option Word) : Type 0 where
   pub piece : Word

@@ -1,11 +1,11 @@
 // The writing of a run.
 ghost use Rattle.std.specs.Prelude.{◌≡◌, ◌⊎◌, ◌≤◌, ◌^◌, true, IfErr, IfNone, IsSome, OnOk, OnErr, MatchOption};
-ghost use Rattle.byte_io.specs.Outside.{Rose, grown, GrewByPrefix};
+ghost use Rattle.byte_io.specs.Outside.{Rose, grown};
 ghost use Rattle.prog_data.specs.Goals.{called_by};
 ghost use Rattle.sld_engine.specs.Built.{is_built};
 ghost use Rattle.sld_engine.specs.Runs.{left_of, program_of, bound_of};
 ghost use Rattle.ciao_top.specs.RunText.{event_text, ending_status};
-ghost use Rattle.ciao_top.specs.InnerAnswers.{DeviceGoesOn, Comes, HasWritten, event_status, RunTells, GoesOn, CallAnswers};
+ghost use Rattle.ciao_top.specs.InnerAnswers.{DeviceGoesOn, Comes, GrewByFront, HasWritten, event_status, RunTells, GoesOn, CallAnswers};
 
 use crate::texts::event_text;
 use byte_io::{Sink, SinkFault, write_all};
@@ -44,7 +44,7 @@ fn write_event<S: Sink>(
     out: &mut S,
 ) -> Result<(), u8>
     ensures ok { OnOk result (S.written out.new ≡ grown (S.written out.old) (event_text program.now event.now)) }
-    ensures err { OnErr result (GrewByPrefix (S.written out.old) (S.written out.new) (event_text program.now event.now)) }
+    ensures err { OnErr result (GrewByFront (S.written out.old) (S.written out.new) (event_text program.now event.now)) }
     ensures status { IfErr result (λ status. ((status ≡ 8) × Rose (S.faults out.old) (S.faults out.new)) ⊎ (status ≡ 9)) }
     ensures sink { DeviceGoesOn (S.steady out.old) (S.steady out.new) (S.faults out.old) (S.faults out.new) }
 {
