@@ -1,17 +1,18 @@
 -- A sentence is read as one assertion at most.
+use Rattle.term_core.specs.declared.fixed.TheConstants.{COLON, IMPLIES}
+use Rattle.term_core.specs.Shapes.{with_mark, parts_of}
 use Rattle.std.proofs.Common.{◌≡◌, ◌≤◌, ℕ, ◌+◌, List, [], ◌∷◌, length, refl, ap, sym, ◌∙◌, subst, arith, true}
 use Rattle.std.specs.Prelude.{Option, Some, None, Result, Ok, Err, IfOk, IfSome, IfNone}
 use Rattle.std.specs.List.{AllZip}
 use Rattle.std.proofs.lemmas.Bool.{and_parts, and_from, false≢true}
 use Rattle.term_core.specs.declared.terms.Term.{Term, out-Term}
 use Rattle.prog_data.specs.declared.conditions.Prop.{Prop}
-use Rattle.prog_data.specs.Goals.{parts_of}
 use Rattle.ciao_reader.specs.declared.sentences.Sentence.{Sentence}
 use Rattle.ciao_top.specs.declared.units.assertions.ReadAssertion.{ReadAssertion}
 use Rattle.ciao_top.specs.UserPredicates.{may_be_asserted}
 use Rattle.ciao_top.specs.Properties.{are_distinct_variables, Says}
 use Rattle.ciao_top.specs.SentenceTerms.{conjunction_term, with_field, IsAssertion}
-use Rattle.ciao_top.specs.AssertionReadings.{asserted_term, with_mark, with_fields, is_written, FieldSays, FieldsSay, SaysAssertion}
+use Rattle.ciao_top.specs.AssertionReadings.{asserted_term, with_fields, is_written, FieldSays, FieldsSay, SaysAssertion}
 use Rattle.ciao_top.proofs.Conjunctions.{one_all}
 use Rattle.ciao_top.proofs.AssertionSteps.{same_asserted, split_of, fields_said}
 
@@ -24,8 +25,8 @@ field_joined : (mark : ℕ) (t : Term) (ts : List Term) → with_field mark t ts
 field_joined mark t [] = refl
 field_joined mark t (p ∷ ps) = refl
 
-fields_joined : (head : Term) (pre post : List Term) → with_field 28 (with_field 46 head pre) post ≡ with_fields head (joined pre) (joined post)
-fields_joined head pre post = field_joined 28 (with_field 46 head pre) post ∙ ap (λ t. with_mark 28 t (joined post)) (field_joined 46 head pre)
+fields_joined : (head : Term) (pre post : List Term) → with_field IMPLIES (with_field COLON head pre) post ≡ with_fields head (joined pre) (joined post)
+fields_joined head pre post = field_joined IMPLIES (with_field COLON head pre) post ∙ ap (λ t. with_mark IMPLIES t (joined post)) (field_joined COLON head pre)
 
 written_length : (pre post : List Term) → is_written (joined pre) (joined post) ≡ true → 1 ≤ length pre + length post
 written_length [] [] e = absurd (false≢true e)
@@ -82,7 +83,7 @@ says_of sentence t a e x =
       head = x.head;
       pre = joined x.pre;
       post = joined x.post;
-      whole = same_asserted t (with_field 28 (with_field 46 x.head x.pre) x.post) (sym e ∙ x.whole) ∙ fields_joined x.head x.pre x.post;
+      whole = same_asserted t (with_field IMPLIES (with_field COLON x.head x.pre) x.post) (sym e ∙ x.whole) ∙ fields_joined x.head x.pre x.post;
       has_field = length_written x.pre x.post x.has_field;
       says = record {
         is_head = and_from (may_be_asserted (out-Term x.head)) (are_distinct_variables arguments) x.asserted x.distinct;
@@ -124,7 +125,7 @@ one_saying head pre post line a b x y =
 -- a sentence is read as one assertion
 pub one_assertion : (s : Sentence) (a b : ReadAssertion) → IsAssertion s a → IsAssertion s b → a ≡ b
 one_assertion s a b x y =
-    let t = with_field 28 (with_field 46 x.head x.pre) x.post in
+    let t = with_field IMPLIES (with_field COLON x.head x.pre) x.post in
     let first = says_of s t a x.whole x in
     let second = says_of s t b x.whole y in
     let split = split_of t second.head second.pre second.post second.says.is_head second.whole in

@@ -1,24 +1,24 @@
 -- An assertion is split into its head and its fields in one way.
+use Rattle.term_core.specs.Shapes.{is_pair, with_mark, parts_of}
 use Rattle.std.proofs.Common.{◌≡◌, ℕ, List, [], ◌∷◌, refl, ap, sym, ◌∙◌, subst, Bool, true, false}
 use Rattle.std.specs.Prelude.{⊤, not, ◌==◌, Option, Some, None}
 use Rattle.std.proofs.lemmas.Bool.{and_parts, eqb-true, not-true, true≢false}
 use Rattle.term_core.specs.declared.terms.Term.{Term, out-Term}
 use Rattle.term_core.specs.declared.terms.Term.TheOpen as layer
 use Rattle.term_core.specs.declared.terms.Term.TheVariants.{outs-Node}
-use Rattle.term_core.specs.declared.fixed.TheConstants.{NECK}
+use Rattle.term_core.specs.declared.fixed.TheConstants.{NECK, COLON, IMPLIES, PRED}
 use Rattle.prog_data.specs.declared.conditions.Prop.{Prop}
-use Rattle.prog_data.specs.Goals.{parts_of}
 use Rattle.ciao_top.specs.declared.units.assertions.ReadAssertion.{ReadAssertion}
-use Rattle.ciao_top.specs.UserPredicates.{is_user, is_field_name, may_be_asserted}
-use Rattle.ciao_top.specs.SentenceParts.{is_pair}
-use Rattle.ciao_top.specs.AssertionReadings.{asserted_term, with_mark, with_fields, is_asserted_head, SaysAll, FieldsSay, SaysAssertion}
+use Rattle.prog_data.specs.Control.{is_user}
+use Rattle.ciao_top.specs.UserPredicates.{is_field_name, may_be_asserted}
+use Rattle.ciao_top.specs.AssertionReadings.{asserted_term, with_fields, is_asserted_head, SaysAll, FieldsSay, SaysAssertion}
 use Rattle.ciao_top.proofs.Compounds.{no_pair}
 use Rattle.ciao_top.proofs.NodeLaws.{same_part, same_first, same_second}
 
 -- `:- pred`
 
 pub same_asserted : (t u : Term) → asserted_term t ≡ asserted_term u → t ≡ u
-same_asserted t u e = same_part 19 19 t u (same_part NECK NECK _ _ e)
+same_asserted t u e = same_part PRED PRED t u (same_part NECK NECK _ _ e)
 
 -- fields
 
@@ -30,8 +30,8 @@ Ends mark t (Some field) = ⊤
 -- a term is this head with these fields, each split off where its mark stands
 pub record IsSplit (t head : Term) (pre post : Option Term) : Type 0 where
   pub whole : t ≡ with_fields head pre post
-  pub ends_pre : Ends 46 head pre
-  pub ends_post : Ends 28 (with_mark 46 head pre) post
+  pub ends_pre : Ends COLON head pre
+  pub ends_post : Ends IMPLIES (with_mark COLON head pre) post
 
 one_mark : (mark : ℕ) (t u : Term) (o q : Option Term) → Ends mark t o → Ends mark u q → with_mark mark t o ≡ with_mark mark u q → (t ≡ u) × (o ≡ q)
 one_mark mark t u None None a b e = (e, refl)
@@ -41,8 +41,8 @@ one_mark mark t u (Some f) (Some g) a b e = (same_first mark mark t f u g e, ap 
 
 pub one_split : (t h k : Term) (pre post pre2 post2 : Option Term) → IsSplit t h pre post → IsSplit t k pre2 post2 → (h ≡ k) × (pre ≡ pre2) × (post ≡ post2)
 one_split t h k pre post pre2 post2 a b =
-    let outer = one_mark 28 (with_mark 46 h pre) (with_mark 46 k pre2) post post2 a.ends_post b.ends_post (sym a.whole ∙ b.whole) in
-    let inner = one_mark 46 h k pre pre2 a.ends_pre b.ends_pre outer.0 in
+    let outer = one_mark IMPLIES (with_mark COLON h pre) (with_mark COLON k pre2) post post2 a.ends_post b.ends_post (sym a.whole ∙ b.whole) in
+    let inner = one_mark COLON h k pre pre2 a.ends_pre b.ends_pre outer.0 in
     (inner.0, inner.1, outer.1)
 
 -- a head is no field
@@ -69,13 +69,13 @@ head_ends mark head m h = no_field mark (out-Term head) m (and_parts (may_be_ass
 pub split_of : (t head : Term) (pre post : Option Term) → is_asserted_head head ≡ true → t ≡ with_fields head pre post → IsSplit t head pre post
 split_of t head pre post h e = record { whole = e; ends_pre = first pre; ends_post = second post pre }
   where
-    first : (o : Option Term) → Ends 46 head o
-    first None = head_ends 46 head refl h
+    first : (o : Option Term) → Ends COLON head o
+    first None = head_ends COLON head refl h
     first (Some field) = tt
 
-    second : (q o : Option Term) → Ends 28 (with_mark 46 head o) q
-    second None None = head_ends 28 head refl h
-    second None (Some field) = ap (is_pair 28) (outs-Node 46 (head ∷ field ∷ []))
+    second : (q o : Option Term) → Ends IMPLIES (with_mark COLON head o) q
+    second None None = head_ends IMPLIES head refl h
+    second None (Some field) = ap (is_pair IMPLIES) (outs-Node COLON (head ∷ field ∷ []))
     second (Some field) o = tt
 
 -- the fields say what the term says

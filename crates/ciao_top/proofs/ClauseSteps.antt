@@ -1,4 +1,5 @@
 -- What the reader of clauses takes and turns away.
+use Rattle.term_core.specs.Shapes.{is_pair}
 use Rattle.std.proofs.Common.{◌≡◌, [], ◌∷◌, Option, Some, None, true, false, refl, ap, sym, ◌∙◌, subst, true≢false}
 use Rattle.term_core.specs.declared.terms.Term.{Term, Node, out-Term}
 use Rattle.term_core.specs.declared.terms.Term.TheVariants.{outs-Node}
@@ -8,7 +9,6 @@ use Rattle.ciao_top.specs.declared.units.clauses.Body.{Body, Both}
 use Rattle.ciao_top.specs.declared.units.clauses.ReadClause.{ReadClause}
 use Rattle.ciao_top.specs.UserPredicates.{names_user_pred, may_be_fact}
 use Rattle.ciao_top.specs.SentenceTerms.{body_term, clause_term, is_head, IsClause}
-use Rattle.ciao_top.specs.SentenceParts.{is_pair}
 use Rattle.ciao_top.proofs.NodeLaws.{same_first, same_second}
 use Rattle.ciao_top.proofs.BodyFolds.{ind_bodies, term_of_one, term_of_both, AreUser, one_user, user_both, both_user}
 use Rattle.ciao_top.proofs.SentenceLaws.{AreGoals, comma_is_no_goal, neck_is_no_fact}

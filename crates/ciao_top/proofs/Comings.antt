@@ -2,22 +2,36 @@
 use Rattle.std.proofs.Common.{◌≡◌, ◌⊎◌, inl, inr, ℕ, Bool, ◌+◌, ◌≤◌, [], ◌++◌, take, length, min, refl, ◌∙◌, sym, ap, subst, Option, Some, None, arith, append-nil}
 use Rattle.std.proofs.lemmas.List.{append_assoc, take_min, take-append-le}
 use Rattle.std.proofs.Math.Seq.{take-append-add, take-append_seam}
-use Rattle.byte_io.specs.Outside.{Rose, grown, GrewByPrefix}
+use Rattle.byte_io.specs.Outside.{Rose, grown, TookFront}
 use Rattle.ciao_top.specs.Words.{Word}
-use Rattle.ciao_top.specs.Answers.{IsPrefix}
-use Rattle.ciao_top.specs.InnerAnswers.{DeviceGoesOn, Only, HasBegun, Comes, Whole, SinkFailed, MemoryWanted, HasWritten}
+use Rattle.ciao_top.specs.Answers.{IsPrefix, Output, output_of, with_piece}
+use Rattle.ciao_top.specs.InnerAnswers.{DeviceGoesOn, GrewByFront, Only, HasBegun, Comes, Whole, SinkFailed, MemoryWanted, HasWritten}
 
 -- what was written
 
 -- nothing more
-pub same_grown : (old : Option Word) → old ≡ grown old []
-same_grown None = refl
-same_grown (Some w) = ap Some (sym (append-nil w))
+same_written : (old : Option Word) → old ≡ grown old []
+same_written None = refl
+same_written (Some w) = ap Some (sym (append-nil w))
+
+pub same_grown : (old : Output) → old ≡ with_piece old []
+same_grown old = λ i. record { written = same_written old.written i; taken = sym (append-nil old.taken) i }
 
 -- a piece and then another one
-pub grown_twice : (old : Option Word) (a b : Word) → grown (grown old a) b ≡ grown old (a ++ b)
-grown_twice None a b = refl
-grown_twice (Some w) a b = ap Some (append_assoc w a b)
+written_twice_grown : (old : Option Word) (a b : Word) → grown (grown old a) b ≡ grown old (a ++ b)
+written_twice_grown None a b = refl
+written_twice_grown (Some w) a b = ap Some (append_assoc w a b)
+
+pub grown_twice : (old : Output) (a b : Word) → with_piece (with_piece old a) b ≡ with_piece old (a ++ b)
+grown_twice old a b = λ i. record { written = written_twice_grown old.written a b i; taken = append_assoc old.taken a b i }
+
+-- a text was written, by what the sink tells
+pub wrote_all : (text taken taken' : Word) (written written' : Option Word) → taken' ≡ taken ++ text → written' ≡ grown written text → output_of written' taken' ≡ with_piece (output_of written taken) text
+wrote_all text taken taken' written written' t w = λ i. record { written = w i; taken = t i }
+
+-- or a front of it
+pub wrote_front : (text taken taken' : Word) (written written' : Option Word) → TookFront taken taken' written written' text → GrewByFront (output_of written taken) (output_of written' taken') text
+wrote_front text taken taken' written written' t = (t.0, wrote_all (take t.0 text) taken taken' written written' t.1 t.2)
 
 -- fronts
 
@@ -59,7 +73,7 @@ goes_on_twice a b c before middle now first second = record {
 -- answers
 
 -- one definition in place of another one that has the same texts
-pub comes_as : (D E : Word → ℕ → Type 0) (writing : Type 0) (old new : Option Word) (result : ℕ)
+pub comes_as : (D E : Word → ℕ → Type 0) (writing : Type 0) (old new : Output) (result : ℕ)
     → ((text : Word) (status : ℕ) → D text status → E text status) → ((text : Word) (status : ℕ) → E text status → D text status)
     → Comes D writing old new result → Comes E writing old new result
 comes_as D E writing old new result to from (Whole text d grew) = Whole text (to text result d) grew
@@ -67,17 +81,17 @@ comes_as D E writing old new result to from (SinkFailed is rose b) = SinkFailed 
 comes_as D E writing old new result to from (MemoryWanted is b) = MemoryWanted is (record { piece = b.piece; begins = λ t s e. b.begins t s (from t s e); grew = b.grew })
 
 -- memory was wanted before anything was written
-pub wanted : (D : Word → ℕ → Type 0) (writing : Type 0) (old new : Option Word) (result : ℕ) → result ≡ 9 → new ≡ old → Comes D writing old new result
+pub wanted : (D : Word → ℕ → Type 0) (writing : Type 0) (old new : Output) (result : ℕ) → result ≡ 9 → new ≡ old → Comes D writing old new result
 wanted D writing old new result is same = MemoryWanted is (record { piece = []; begins = λ t s d. (0, refl); grew = same ∙ same_grown old })
 
 -- a prefix of the text was written, and the sink refused or memory was wanted
-pub cut_short : (D : Word → ℕ → Type 0) (before after : ℕ) (old new : Option Word) (result : ℕ) → ((result ≡ 8) × Rose before after) ⊎ (result ≡ 9)
+pub cut_short : (D : Word → ℕ → Type 0) (before after : ℕ) (old new : Output) (result : ℕ) → ((result ≡ 8) × Rose before after) ⊎ (result ≡ 9)
     → HasBegun D old new → Comes D (Rose before after) old new result
 cut_short D before after old new result (inl failed) b = SinkFailed failed.0 failed.1 b
 cut_short D before after old new result (inr is) b = MemoryWanted is b
 
 -- one text and one status in place of a definition
-pub comes_only : (D : Word → ℕ → Type 0) (line : Word) (told : ℕ) (writing : Type 0) (old new : Option Word) (result : ℕ)
+pub comes_only : (D : Word → ℕ → Type 0) (line : Word) (told : ℕ) (writing : Type 0) (old new : Output) (result : ℕ)
     → D line told → ((text : Word) (status : ℕ) → D text status → text ≡ line)
     → Comes (Only line told) writing old new result → Comes D writing old new result
 comes_only D line told writing old new result has one (Whole text d grew) =
@@ -90,28 +104,28 @@ comes_only D line told writing old new result has one (MemoryWanted is b) =
 -- the writing of a text
 
 -- it was written
-pub only_whole : (line : Word) (told : ℕ) (writing : Type 0) (old new : Option Word) → new ≡ grown old line → Comes (Only line told) writing old new told
+pub only_whole : (line : Word) (told : ℕ) (writing : Type 0) (old new : Output) → new ≡ with_piece old line → Comes (Only line told) writing old new told
 only_whole line told writing old new grew = Whole line (refl, refl) grew
 
 -- an equal text was written
-pub only_same : (line line' : Word) (told : ℕ) (writing : Type 0) (old new : Option Word) (result : ℕ) → line ≡ line' → Comes (Only line told) writing old new result → Comes (Only line' told) writing old new result
+pub only_same : (line line' : Word) (told : ℕ) (writing : Type 0) (old new : Output) (result : ℕ) → line ≡ line' → Comes (Only line told) writing old new result → Comes (Only line' told) writing old new result
 only_same line line' told writing old new result same comes = subst (λ t. Comes (Only t told) writing old new result) same comes
 
 -- a prefix of it was written
-pub only_begun : (line : Word) (told : ℕ) (old new : Option Word) → GrewByPrefix old new line → HasBegun (Only line told) old new
+pub only_begun : (line : Word) (told : ℕ) (old new : Output) → GrewByFront old new line → HasBegun (Only line told) old new
 only_begun line told old new g = record { piece = take g.0 line; begins = λ t s d. (g.0, ap (take g.0) (sym d.0)); grew = g.1 }
 
 -- a piece and what comes behind it
 
 -- nothing was written yet
-pub nothing_written : (D : Word → ℕ → Type 0) (old : Option Word) → HasWritten D D old old
+pub nothing_written : (D : Word → ℕ → Type 0) (old : Output) → HasWritten D D old old
 nothing_written D old = record { piece = []; grew = same_grown old; forth = λ t s d. d; back = λ t s d. (t, refl, d) }
 
 -- two pieces
-pub written_twice : (D E F : Word → ℕ → Type 0) (old mid new : Option Word) → HasWritten D E old mid → HasWritten E F mid new → HasWritten D F old new
+pub written_twice : (D E F : Word → ℕ → Type 0) (old mid new : Output) → HasWritten D E old mid → HasWritten E F mid new → HasWritten D F old new
 written_twice D E F old mid new a b = record {
   piece = a.piece ++ b.piece;
-  grew = b.grew ∙ ap (λ o. grown o b.piece) a.grew ∙ grown_twice old a.piece b.piece;
+  grew = b.grew ∙ ap (λ o. with_piece o b.piece) a.grew ∙ grown_twice old a.piece b.piece;
   forth = λ t s f. subst (λ x. D x s) (sym (append_assoc a.piece b.piece t)) (a.forth (b.piece ++ t) s (b.forth t s f));
   back = λ t s d.
       let x = a.back t s d in
@@ -120,26 +134,26 @@ written_twice D E F old mid new a b = record {
 }
 
 -- a piece and then a front
-begun_behind : (D E : Word → ℕ → Type 0) (old mid new : Option Word) → HasWritten D E old mid → HasBegun E mid new → HasBegun D old new
+begun_behind : (D E : Word → ℕ → Type 0) (old mid new : Output) → HasWritten D E old mid → HasBegun E mid new → HasBegun D old new
 begun_behind D E old mid new a b = record {
   piece = a.piece ++ b.piece;
   begins = λ t s d.
       let x = a.back t s d in
       subst (λ y. IsPrefix (a.piece ++ b.piece) y) (sym x.1) (front_behind a.piece b.piece x.0 (b.begins x.0 s x.2));
-  grew = b.grew ∙ ap (λ o. grown o b.piece) a.grew ∙ grown_twice old a.piece b.piece;
+  grew = b.grew ∙ ap (λ o. with_piece o b.piece) a.grew ∙ grown_twice old a.piece b.piece;
 }
 
 -- a piece and then an answer
-pub comes_behind : (D E : Word → ℕ → Type 0) (before mid after : ℕ) (old middle new : Option Word) (result : ℕ)
+pub comes_behind : (D E : Word → ℕ → Type 0) (before mid after : ℕ) (old middle new : Output) (result : ℕ)
     → before ≤ mid → HasWritten D E old middle → Comes E (Rose mid after) middle new result → Comes D (Rose before after) old new result
 comes_behind D E before mid after old middle new result le a (Whole text e grew) =
-    Whole (a.piece ++ text) (a.forth text result e) (grew ∙ ap (λ o. grown o text) a.grew ∙ grown_twice old a.piece text)
+    Whole (a.piece ++ text) (a.forth text result e) (grew ∙ ap (λ o. with_piece o text) a.grew ∙ grown_twice old a.piece text)
 comes_behind D E before mid after old middle new result le a (SinkFailed is rose b) =
     SinkFailed is (rose_later before mid after le rose) (begun_behind D E old middle new a b)
 comes_behind D E before mid after old middle new result le a (MemoryWanted is b) = MemoryWanted is (begun_behind D E old middle new a b)
 
 -- a piece and then want of memory
-pub wanted_behind : (D E : Word → ℕ → Type 0) (writing : Type 0) (old new : Option Word) (result : ℕ) → result ≡ 9 → HasWritten D E old new → Comes D writing old new result
+pub wanted_behind : (D E : Word → ℕ → Type 0) (writing : Type 0) (old new : Output) (result : ℕ) → result ≡ 9 → HasWritten D E old new → Comes D writing old new result
 wanted_behind D E writing old new result is a = MemoryWanted is (record {
   piece = a.piece;
   begins = λ t s d.

@@ -1,4 +1,5 @@
 -- Terms joined by commas say one list of properties, and a loop over them finds it.
+use Rattle.term_core.specs.Shapes.{is_pair}
 use Rattle.std.proofs.Common.{◌≡◌, ℕ, List, [], ◌∷◌, ◌++◌, refl, ap, sym, ◌∙◌, subst, false}
 use Rattle.std.specs.Prelude.{Some, None}
 use Rattle.std.specs.List.{AllZip}
@@ -9,7 +10,6 @@ use Rattle.term_core.specs.declared.fixed.TheConstants.{COMMA}
 use Rattle.prog_data.specs.declared.conditions.Prop.{Prop}
 use Rattle.ciao_top.specs.Properties.{property_at, Says}
 use Rattle.ciao_top.specs.SentenceTerms.{conjunction_term}
-use Rattle.ciao_top.specs.SentenceParts.{is_pair}
 use Rattle.ciao_top.specs.AssertionReadings.{SaysAll}
 use Rattle.ciao_top.proofs.Compounds.{node_at, no_pair}
 use Rattle.ciao_top.proofs.NodeLaws.{same_first, same_second}

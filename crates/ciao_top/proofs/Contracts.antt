@@ -1,22 +1,38 @@
 -- The contract of the tool, from those of its parts.
-use Rattle.std.proofs.Common.{◌≡◌, ◌⊎◌, inl, inr, ℕ, ◌<◌, List, [], take, refl, ◌∙◌, sym, ap, subst, Option, Some, None, IfSome, codes, arith, option_map, lit<}
+use Rattle.std.proofs.Common.{◌≡◌, ◌⊎◌, inl, inr, ℕ, ◌+◌, ◌<◌, ◌≤◌, zero, suc, List, [], ◌∷◌, ◌++◌, take, drop, length, append-nil, refl, ◌∙◌, sym, ap, subst, Option, Some, None, IfSome, IsSome, arith}
+use Rattle.std.specs.Prelude.{Result}
 use Rattle.std.proofs.lemmas.Option.{none-some}
+use Rattle.std.proofs.Math.Seq.{drop-append_seam}
+use Rattle.byte_io.specs.Outside.{Held, FileRead, Agrees}
+use Rattle.term_core.specs.declared.terms.Term.{Term}
 use Rattle.prog_data.specs.declared.programs.Program.{Program}
-use Rattle.machine_model.specs.Tests.{Tests}
-use Rattle.machine_model.specs.Laws.{OneRun, Ends}
-use Rattle.byte_io.specs.Outside.{Held, grown}
-use Rattle.ciao_top.specs.Words.{Word, RunWords, AcceptedWords}
-use Rattle.ciao_top.specs.Lines.{fault_line, file_fault, read_fault}
-use Rattle.ciao_top.specs.Answers.{RunDefined, Missing, There, Defined, NotAccepted, Runs, FileAnswers, Answered, OneAnswer, SomeAnswer, Complete}
-use Rattle.ciao_top.specs.InnerAnswers as inner
-use Rattle.ciao_top.specs.InnerAnswers.{Only, Comes, Whole, SinkFailed, MemoryWanted, RunAnswered}
-use Rattle.ciao_top.proofs.RunTexts.{same_some}
+use Rattle.prog_data.specs.Goals.{called_by}
+use Rattle.ciao_top.specs.Words.{Word, RunWords, AcceptedWords, shown}
+use Rattle.ciao_top.specs.declared.stops.Reason.{Reason}
+use Rattle.ciao_top.specs.declared.stops.Reason.TheVariants as reason
+use Rattle.ciao_top.specs.declared.stops.Stop.{Stop}
+use Rattle.ciao_top.specs.declared.stops.Stop.TheVariants as stop
+use Rattle.ciao_top.specs.Lines.{reason_text, reason_status, read_fault, stop_text, stop_status}
+use Rattle.ciao_top.specs.Answers.{HasQuery, Refuses, NoCommand, OfCommand, RunAnswers, Defined, Refused, Runs, Agree, new_reads, Output, with_piece, ReadsOnly, Nothing, Once, IsPrefix, Answered, Complete}
+use Rattle.ciao_top.specs.InnerAnswers.{Only, HasBegun, Comes, Whole, SinkFailed, MemoryWanted, Stops, OneRead}
+use Rattle.ciao_top.proofs.Refusals.{same_some, one_prepared, one_refusal, none_accepted, some_called, run_words_not_refused}
 use Rattle.ciao_top.proofs.Comings.{same_grown}
-use Rattle.ciao_top.proofs.Statuses.{apart, above, of_fault, of_file, small_or_fault}
-use Rattle.ciao_top.proofs.Files.{answers_of_whole, answers_of_front, file_one, file_some}
+use Rattle.ciao_top.proofs.Files.{one_new, read_of}
+use Rattle.ciao_top.proofs.Statuses.{apart, above, reason_small, reason_two, of_ending, small_or_fault}
+
+-- the reads of a call, and files that agree with them
+pub record AreReads (held : Option Held) (words : List Word) (reads : List FileRead) : Type 0 where
+  pub only : ReadsOnly words reads
+  pub files : Held
+  pub agree : Agree reads files
+  pub told_agree : IfSome held (Agree reads)
+
+-- nothing has no front but nothing
+take_nil : (n : ℕ) → ◌≡◌ {A = Word} (take n []) []
+take_nil zero = refl
+take_nil (suc n) = refl
 
 -- where the files are told
-
 on_held : {P Q : Held → Type 0} (o : Option Held) → ((f : Held) → P f → Q f) → IfSome o P → IfSome o Q
 on_held None go p = p
 on_held (Some f) go p = go f p
@@ -25,10 +41,10 @@ all_held : {Q : Held → Type 0} (o : Option Held) → ((f : Held) → Q f) → 
 all_held None go = tt
 all_held (Some f) go = go f
 
--- a definition has the texts and statuses of the files
-pub record IsDefinition (words : List Word) (D : Word → ℕ → Type 0) (files : Held) : Type 0 where
-  pub to : (text : Word) (status : ℕ) → D text status → Defined files words text status
-  pub from : (text : Word) (status : ℕ) → Defined files words text status → D text status
+-- a definition has the texts and statuses of the files that agree with the reads
+pub record IsDefinition (words : List Word) (reads : List FileRead) (D : Word → ℕ → Type 0) : Type 0 where
+  pub to : (files : Held) → Agree reads files → (text : Word) (status : ℕ) → D text status → Defined files words text status
+  pub from : (files : Held) → Agree reads files → (text : Word) (status : ℕ) → Defined files words text status → D text status
 
 -- the statuses of a definition are small, and 2 where the words are not accepted
 pub record HasStatuses (words : List Word) (D : Word → ℕ → Type 0) : Type 0 where
@@ -36,205 +52,212 @@ pub record HasStatuses (words : List Word) (D : Word → ℕ → Type 0) : Type 
   pub refused : (text : Word) (status : ℕ) → D text status → status ≡ 2 → AcceptedWords words ≡ None
   pub not_accepted : (text : Word) (status : ℕ) → D text status → AcceptedWords words ≡ None → status ≡ 2
 
--- a defined answer meets the contract
-answered : (held : Option Held) (words : List Word) (D : Word → ℕ → Type 0) (reading writing : Type 0) (old new : Option Word) (result : ℕ)
-    → HasStatuses words D → IfSome held (IsDefinition words D)
-    → Comes D writing old new result → Answered held words reading writing old new result
-answered held words D reading writing old new result h defined (Whole text d grew) =
-    let small = h.small text result d in
-    record {
-      statuses = omega (small, arith);
-      refused = h.refused text result d;
-      not_accepted = λ none. inl (h.not_accepted text result d none);
-      read = λ e. absurd (apart result 7 small e);
-      write = λ e. absurd (apart result 8 (omega (small, arith)) e);
-      defined = λ _. on_held held (λ files same. (text, same.to text result d, grew)) defined;
-      unread = λ e. absurd (apart result 7 small e);
-      front = λ le. absurd (above result 8 (omega (small, arith)) le);
+module _ (held : Option Held) (words : List Word) (reads : List FileRead) (are : AreReads held words reads) (reading writing : Type 0) (old new : Output) (result : ℕ) where
+  -- a defined answer meets the contract
+  answered : (D : Word → ℕ → Type 0) → HasStatuses words D → IsDefinition words reads D → Comes D writing old new result → Answered held words reads reading writing old new result
+  answered D h same (Whole text d grew) =
+      let small = h.small text result d in
+      record {
+        statuses = omega (small, arith);
+        refused = h.refused text result d;
+        not_accepted = λ none. inl (h.not_accepted text result d none);
+        reads_only = are.only;
+        files = are.files;
+        agree = are.agree;
+        told_agree = are.told_agree;
+        read = λ e. absurd (apart result 7 small e);
+        write = λ e. absurd (apart result 8 (omega (small, arith)) e);
+        defined = λ _. (text, (λ files agree. same.to files agree text result d), grew);
+        unread = λ e. absurd (apart result 7 small e);
+        front = λ le. absurd (above result 8 (omega (small, arith)) le);
+      }
+  answered D h same (SinkFailed is rose b) = record {
+    statuses = omega (is, arith);
+    refused = λ e. absurd (apart 2 8 (omega arith) (sym e ∙ is));
+    not_accepted = λ _. inr (omega (is, arith));
+    reads_only = are.only;
+    files = are.files;
+    agree = are.agree;
+    told_agree = are.told_agree;
+    read = λ e. absurd (apart 7 8 (omega arith) (sym e ∙ is));
+    write = λ _. rose;
+    defined = λ lt. absurd (above result 7 lt (omega (is, arith)));
+    unread = λ e. absurd (apart 7 8 (omega arith) (sym e ∙ is));
+    front = λ _. (b.piece, (λ files agree. inl (λ t s d. b.begins t s (same.from files agree t s d))), b.grew);
+  }
+  answered D h same (MemoryWanted is b) = record {
+    statuses = omega (is, arith);
+    refused = λ e. absurd (apart 2 9 (omega arith) (sym e ∙ is));
+    not_accepted = λ _. inr (omega (is, arith));
+    reads_only = are.only;
+    files = are.files;
+    agree = are.agree;
+    told_agree = are.told_agree;
+    read = λ e. absurd (apart 7 9 (omega arith) (sym e ∙ is));
+    write = λ e. absurd (apart 8 9 (omega arith) (sym e ∙ is));
+    defined = λ lt. absurd (above result 7 lt (omega (is, arith)));
+    unread = λ e. absurd (apart 7 9 (omega arith) (sym e ∙ is));
+    front = λ _. (b.piece, (λ files agree. inl (λ t s d. b.begins t s (same.from files agree t s d))), b.grew);
+  }
+
+  -- words that are refused
+
+  from_refused : (files : Held) (why : Reason) → Refuses files words why → (text : Word) (status : ℕ) → Defined files words text status → Only (reason_text why) (reason_status why) text status
+  from_refused files why refused text status (Refused other refused' l r) =
+      let same = one_refusal files words other why refused' refused in (l ∙ ap reason_text same, r ∙ ap reason_status same)
+  from_refused files why refused text status (Runs command is p q has a) = absurd (run_words_not_refused files words command is why p q refused has (some_called p q a.runs.1.pred a.runs.1.calls))
+
+  pub refused_answers : (why : Reason) → ((files : Held) → Agree reads files → Refuses files words why) → Comes (Only (reason_text why) (reason_status why)) writing old new result
+      → Answered held words reads reading writing old new result
+  refused_answers why refused comes =
+      let here = refused are.files are.agree in
+      answered (Only (reason_text why) (reason_status why))
+      (record {
+        small = λ t s d. subst (λ n. n < 7) (sym d.1) (reason_small why);
+        refused = λ t s d two. none_accepted are.files words why here (reason_two why (sym d.1 ∙ two));
+        not_accepted = λ t s d none. d.1 ∙ ap reason_status (one_refusal are.files words why reason.NoCommand here (NoCommand none));
+      })
+      (record { to = λ files agree t s d. Refused why (refused files agree) d.0 d.1; from = λ files agree t s d. from_refused files why (refused files agree) t s d }) comes
+
+  module _ (command : RunWords) (is : AcceptedWords words ≡ Some command) where
+    -- words that run
+
+    from_run : (files : Held) (p : Program) (q : Term) → HasQuery files command p q → IsSome (called_by p q) → (text : Word) (status : ℕ) → Defined files words text status → RunAnswers p q command.steps text status
+    from_run files p q has called text status (Refused why refused l r) = absurd (run_words_not_refused files words command is why p q refused has called)
+    from_run files p q has called text status (Runs command' is' p' q' has' a) =
+        let same = same_some command' command (AcceptedWords words) is' is in
+        let one = one_prepared files command p' p q' q (subst (λ c. HasQuery files c p' q') same has') has in
+        subst (λ x. RunAnswers p x command.steps text status) one.1
+        (subst (λ x. RunAnswers x q' command.steps text status) one.0 (subst (λ (c : RunWords). RunAnswers p' q' c.steps text status) same a))
+
+    pub run_answers : (p : Program) (q : Term) → ((files : Held) → Agree reads files → HasQuery files command p q) → IsSome (called_by p q) → Comes (RunAnswers p q command.steps) writing old new result
+        → Answered held words reads reading writing old new result
+    run_answers p q has called comes =
+        answered (RunAnswers p q command.steps)
+        (record {
+          small = λ t s d. (of_ending d.ending s d.status_is).small;
+          refused = λ t s d two. absurd ((of_ending d.ending s d.status_is).not_two two);
+          not_accepted = λ t s d none. absurd (none-some command (sym none ∙ is));
+        })
+        (record { to = λ files agree t s d. Runs command is p q (has files agree) d; from = λ files agree t s d. from_run files p q (has files agree) called t s d }) comes
+
+    -- a file that could not be read
+    unreadable : (line : Word) → line ≡ read_fault (shown command.file) → reading → Comes (Only line 7) writing old new result → Answered held words reads reading writing old new result
+    unreadable line told rose (Whole text d grew) = record {
+      statuses = omega (d.1, arith);
+      refused = λ two. absurd (apart 2 7 (omega arith) (sym two ∙ d.1));
+      not_accepted = λ none. absurd (none-some command (sym none ∙ is));
+      reads_only = are.only;
+      files = are.files;
+      agree = are.agree;
+      told_agree = are.told_agree;
+      read = λ _. rose;
+      write = λ eight. absurd (apart 7 8 (omega arith) (sym d.1 ∙ eight));
+      defined = λ lt. absurd (apart result 7 lt d.1);
+      unread = λ _. (command.file, (command, is, refl), grew ∙ ap (with_piece old) (d.0 ∙ told));
+      front = λ le. absurd (above 7 8 (omega arith) (omega (le, d.1, arith)));
     }
-answered held words D reading writing old new result h defined (SinkFailed is rose b) = record {
-  statuses = omega (is, arith);
-  refused = λ e. absurd (apart 2 8 (omega arith) (sym e ∙ is));
-  not_accepted = λ _. inr (omega (is, arith));
-  read = λ e. absurd (apart 7 8 (omega arith) (sym e ∙ is));
-  write = λ _. rose;
-  defined = λ lt. absurd (above result 7 lt (omega (is, arith)));
-  unread = λ e. absurd (apart 7 8 (omega arith) (sym e ∙ is));
-  front = λ _. on_held held (λ files same. (b.piece, inl (λ t s d. b.begins t s (same.from t s d)), b.grew)) defined;
-}
-answered held words D reading writing old new result h defined (MemoryWanted is b) = record {
-  statuses = omega (is, arith);
-  refused = λ e. absurd (apart 2 9 (omega arith) (sym e ∙ is));
-  not_accepted = λ _. inr (omega (is, arith));
-  read = λ e. absurd (apart 7 9 (omega arith) (sym e ∙ is));
-  write = λ e. absurd (apart 8 9 (omega arith) (sym e ∙ is));
-  defined = λ lt. absurd (above result 7 lt (omega (is, arith)));
-  unread = λ e. absurd (apart 7 9 (omega arith) (sym e ∙ is));
-  front = λ _. on_held held (λ files same. (b.piece, inl (λ t s d. b.begins t s (same.from t s d)), b.grew)) defined;
-}
+    unreadable line told rose (SinkFailed e wrote b) = record {
+      statuses = omega (e, arith);
+      refused = λ two. absurd (apart 2 8 (omega arith) (sym two ∙ e));
+      not_accepted = λ _. inr (omega (e, arith));
+      reads_only = are.only;
+      files = are.files;
+      agree = are.agree;
+      told_agree = are.told_agree;
+      read = λ _. rose;
+      write = λ _. wrote;
+      defined = λ lt. absurd (above result 7 lt (omega (e, arith)));
+      unread = λ seven. absurd (apart 7 8 (omega arith) (sym seven ∙ e));
+      front = λ _. (b.piece, (λ files agree. inr (rose, (command.file, (command, is, refl), subst (IsPrefix b.piece) told (b.begins line 7 (refl, refl))))), b.grew);
+    }
+    unreadable line told rose (MemoryWanted e b) = record {
+      statuses = omega (e, arith);
+      refused = λ two. absurd (apart 2 9 (omega arith) (sym two ∙ e));
+      not_accepted = λ _. inr (omega (e, arith));
+      reads_only = are.only;
+      files = are.files;
+      agree = are.agree;
+      told_agree = are.told_agree;
+      read = λ _. rose;
+      write = λ eight. absurd (apart 8 9 (omega arith) (sym eight ∙ e));
+      defined = λ lt. absurd (above result 7 lt (omega (e, arith)));
+      unread = λ seven. absurd (apart 7 9 (omega arith) (sym seven ∙ e));
+      front = λ _. (b.piece, (λ files agree. inr (rose, (command.file, (command, is, refl), subst (IsPrefix b.piece) told (b.begins line 7 (refl, refl))))), b.grew);
+    }
 
--- words that are refused
+    -- memory was wanted before anything was written, or a fault of the sink came then
+    nothing : (status : ℕ) → 8 ≤ status → status ≤ 9 → (status ≡ 8 → writing) → result ≡ status → HasBegun (Only [] 9) old new → Answered held words reads reading writing old new result
+    nothing status le most rose e b = record {
+      statuses = omega (e, most, arith);
+      refused = λ two. absurd (above 2 8 (omega arith) (omega (two, e, le, arith)));
+      not_accepted = λ _. inr (omega (e, le, arith));
+      reads_only = are.only;
+      files = are.files;
+      agree = are.agree;
+      told_agree = are.told_agree;
+      read = λ seven. absurd (above 7 8 (omega arith) (omega (seven, e, le, arith)));
+      write = λ eight. rose (sym e ∙ eight);
+      defined = λ lt. absurd (above result 7 lt (omega (e, le, arith)));
+      unread = λ seven. absurd (above 7 8 (omega arith) (omega (seven, e, le, arith)));
+      front = λ _. (b.piece, (λ files agree. inl (λ t s d. (0, is_empty b.piece (b.begins [] 9 (refl, refl))))), b.grew);
+    }
+      where
+        is_empty : (piece : Word) → IsPrefix piece [] → piece ≡ []
+        is_empty piece p = p.1 ∙ take_nil p.0
 
-refused_from : (files : Held) (words : List Word) (line : Word) → AcceptedWords words ≡ None → line ≡ fault_line (codes "words") → (text : Word) (status : ℕ) → Defined files words text status → Only line 2 text status
-refused_from files words line none same text status (NotAccepted n l r) = (l ∙ sym same, r)
-refused_from files words line none same text status (Runs c is d) = absurd (none-some c (sym none ∙ is))
+    no_memory : Comes (Only [] 9) writing old new result → Answered held words reads reading writing old new result
+    no_memory (Whole text d grew) = nothing 9 (omega arith) (omega arith) (λ e. absurd (apart 8 9 (omega arith) (sym e))) d.1 (record { piece = text; begins = λ t s d'. (0, d.0); grew = grew })
+    no_memory (SinkFailed e rose b) = nothing 8 (omega arith) (omega arith) (λ _. rose) e b
+    no_memory (MemoryWanted e b) = nothing 9 (omega arith) (omega arith) (λ e. absurd (apart 8 9 (omega arith) (sym e))) e b
 
--- the words were refused
-pub refused : (held : Option Held) (words : List Word) (reading writing : Type 0) (old new : Option Word) (line : Word) (result : ℕ)
-    → None ≡ AcceptedWords words → line ≡ fault_line (codes "words") → Comes (Only line 2) writing old new result → Answered held words reading writing old new result
-refused held words reading writing old new line result none same comes =
-    answered held words (Only line 2) reading writing old new result
-    (record { small = λ t s d. omega (d.1, arith); refused = λ t s d e. sym none; not_accepted = λ t s d e. d.1 })
-    (all_held held (λ files. record { to = λ t s d. NotAccepted (sym none) (d.0 ∙ same) d.1; from = refused_from files words line (sym none) same }))
-    comes
+    -- a command that is not run
+    pub stopped : (stop : Stop) → Stops command reads reading stop → Comes (Only (stop_text stop) (stop_status stop)) writing old new result → Answered held words reads reading writing old new result
+    stopped (stop.Refused why) s comes = refused_answers why (λ files agree. OfCommand command is why (s files agree)) comes
+    stopped (stop.Unreadable name) s comes = unreadable (read_fault name) (ap read_fault s.1) s.0 comes
+    stopped stop.NoMemory s comes = no_memory comes
 
--- accepted words
+-- the reads of a call
 
-lacks : (f : Word → Word) (x : Option Word) → None ≡ option_map f x → x ≡ None
-lacks f None e = refl
-lacks f (Some w) e = absurd (none-some (f w) e)
+-- none
+none_new : (old : List FileRead) → new_reads old old ≡ []
+none_new old = ap (drop (length old)) (sym (append-nil old)) ∙ drop-append_seam old []
 
-has : (f : Word → Word) (w : Word) (x : Option Word) → Some w ≡ option_map f x → (bytes : Word) × (x ≡ Some bytes) × (w ≡ f bytes)
-has f w None e = absurd (none-some w (sym e))
-has f w (Some b) e = (b, refl, same_some w (f b) (Some w) refl e)
+pub none_follow : (old : List FileRead) → old ≡ old ++ new_reads old old
+none_follow old = sym (append-nil old) ∙ ap (λ reads. old ++ reads) (sym (none_new old))
 
--- the file is not there
-pub missing : {V : Type 0} (items : V → Word) (n : ℕ) (held : Option Held) (command : RunWords) (answer : Option V)
-    → answer ≡ None → IfSome held (λ files. option_map items answer ≡ option_map (take n) (files command.file)) → IfSome held (λ files. files command.file ≡ None)
-missing items n held command answer none bytes =
-    on_held held (λ files b. lacks (take n) (files command.file) (ap (option_map items) (sym none) ∙ b)) bytes
+pub no_reads : (held : Option Held) (words : List Word) (old : List FileRead) → AcceptedWords words ≡ None → AreReads held words (new_reads old old)
+no_reads held words old none =
+    let nil = none_new old in
+    record {
+      only = Nothing none nil;
+      files = λ name. None;
+      agree = subst (λ reads. Agree reads (λ name. None)) (sym nil) tt;
+      told_agree = all_held held (λ files. subst (λ reads. Agree reads files) (sym nil) tt);
+    }
 
--- the file is there
-pub there : {V : Type 0} (items : V → Word) (n : ℕ) (held : Option Held) (command : RunWords) (answer : Option V) (v : V) (bytes : Word)
-    → answer ≡ Some v → IfSome held (λ files. option_map items answer ≡ option_map (take n) (files command.file)) → bytes ≡ items v
-    → IfSome held (λ files. (whole : Word) × (files command.file ≡ Some whole) × (bytes ≡ take n whole))
-there items n held command answer v bytes some told same =
-    on_held held (λ files b.
-    let found = has (take n) (items v) (files command.file) (ap (option_map items) (sym some) ∙ b) in
-    (found.0, found.1, same ∙ found.2)) told
+-- one
+pub one_reads : (held : Option Held) (words : List Word) (command : RunWords) (old new : List FileRead) → AcceptedWords words ≡ Some command → OneRead held command old new → AreReads held words (new_reads old new)
+one_reads held words command old new is one =
+    let same = one_new old new (read_of command one.answer) one.told in
+    record {
+      only = Once command.file (command, is, refl) one.answer same;
+      files = one.files;
+      agree = subst (λ reads. Agree reads one.files) (sym same) (one.agree, tt);
+      told_agree = on_held held (λ files agree. subst (λ reads. Agree reads files) (sym same) (agree, tt)) one.told_agree;
+    }
 
-module _ (words : List Word) (command : RunWords) (is : AcceptedWords words ≡ Some command) where
-  from_defined : (files : Held) (text : Word) (status : ℕ) → Defined files words text status → RunDefined files command text status
-  from_defined files text status (NotAccepted none l r) = absurd (none-some command (sym none ∙ is))
-  from_defined files text status (Runs c is' d) = subst (λ x. RunDefined files x text status) (same_some c command (AcceptedWords words) is' is) d
-
-  from_missing : (files : Held) → files command.file ≡ None → (text : Word) (status : ℕ) → RunDefined files command text status → Only (file_fault command.file 0 (codes "NoFile")) 3 text status
-  from_missing files none text status (Missing n l r) = (l, r)
-  from_missing files none text status (There bytes some answers) = absurd (none-some bytes (sym none ∙ some))
-
-  from_there : (n : ℕ) (bytes whole : Word) (files : Held) → 1048576 < n → files command.file ≡ Some whole → bytes ≡ take n whole → (text : Word) (status : ℕ) → RunDefined files command text status → FileAnswers bytes command text status
-  from_there n bytes whole files lt some same text status (Missing none l r) = absurd (none-some whole (sym none ∙ some))
-  from_there n bytes whole files lt some same text status (There other some' answers) =
-      subst (λ b. FileAnswers b command text status) (ap (take n) (same_some other whole (files command.file) some' some) ∙ sym same)
-      (answers_of_front n other command lt text status answers)
-
-  -- the files that are told define the answers of the bytes that were read
-  there_defined : (n : ℕ) (bytes : Word) (files : Held) → 1048576 < n → (whole : Word) × (files command.file ≡ Some whole) × (bytes ≡ take n whole) → IsDefinition words (FileAnswers bytes command) files
-  there_defined n bytes files lt found = record {
-    to = λ t s d. Runs command is (There found.0 found.1 (answers_of_whole n found.0 command lt t s (subst (λ b. FileAnswers b command t s) found.2 d)));
-    from = λ t s d. from_there n bytes found.0 files lt found.1 found.2 t s (from_defined files t s d);
-  }
-
-  -- a run of accepted words
-  pub ran : (held : Option Held) (reading writing : Type 0) (old new : Option Word) (result : ℕ)
-      → RunAnswered held command reading writing old new result → Answered held words reading writing old new result
-  ran held reading writing old new result (inner.Missing none comes) =
-      answered held words (Only (file_fault command.file 0 (codes "NoFile")) 3) reading writing old new result
-      (record {
-        small = λ t s d. (of_fault s d.1).small;
-        refused = λ t s d two. absurd ((of_fault s d.1).not_two two);
-        not_accepted = λ t s d n. absurd (none-some command (sym n ∙ is));
-      })
-      (on_held held (λ files n. record { to = λ t s d. Runs command is (Missing n d.0 d.1); from = λ t s d. from_missing files n t s (from_defined files t s d) }) none)
-      comes
-  ran held reading writing old new result (inner.There bytes found comes) =
-      answered held words (FileAnswers bytes command) reading writing old new result
-      (record {
-        small = λ t s d. (of_file bytes command t s d).small;
-        refused = λ t s d two. absurd ((of_file bytes command t s d).not_two two);
-        not_accepted = λ t s d n. absurd (none-some command (sym n ∙ is));
-      })
-      (on_held held (λ files f. there_defined 1048577 bytes files (lit< tt) f) found)
-      comes
-  ran held reading writing old new result (inner.Unread rose (Whole text d grew)) = record {
-    statuses = omega (d.1, arith);
-    refused = λ two. absurd (apart 2 7 (omega arith) (sym two ∙ d.1));
-    not_accepted = λ none. absurd (none-some command (sym none ∙ is));
-    read = λ _. rose;
-    write = λ eight. absurd (apart 7 8 (omega arith) (sym d.1 ∙ eight));
-    defined = λ lt. absurd (apart result 7 lt d.1);
-    unread = λ _. (command.file, (command, is, refl), grew ∙ ap (grown old) d.0);
-    front = λ le. absurd (above 7 8 (omega arith) (omega (le, d.1, arith)));
-  }
-  ran held reading writing old new result (inner.Unread rose (SinkFailed e wrote b)) = record {
-    statuses = omega (e, arith);
-    refused = λ two. absurd (apart 2 8 (omega arith) (sym two ∙ e));
-    not_accepted = λ _. inr (omega (e, arith));
-    read = λ _. rose;
-    write = λ _. wrote;
-    defined = λ lt. absurd (above result 7 lt (omega (e, arith)));
-    unread = λ seven. absurd (apart 7 8 (omega arith) (sym seven ∙ e));
-    front = λ _. all_held held (λ files. (b.piece, inr (rose, (command.file, (command, is, refl), b.begins (read_fault command.file) 7 (refl, refl))), b.grew));
-  }
-  ran held reading writing old new result (inner.Unread rose (MemoryWanted e b)) = record {
-    statuses = omega (e, arith);
-    refused = λ two. absurd (apart 2 9 (omega arith) (sym two ∙ e));
-    not_accepted = λ _. inr (omega (e, arith));
-    read = λ _. rose;
-    write = λ eight. absurd (apart 8 9 (omega arith) (sym eight ∙ e));
-    defined = λ lt. absurd (above result 7 lt (omega (e, arith)));
-    unread = λ seven. absurd (apart 7 9 (omega arith) (sym seven ∙ e));
-    front = λ _. all_held held (λ files. (b.piece, inr (rose, (command.file, (command, is, refl), b.begins (read_fault command.file) 7 (refl, refl))), b.grew));
-  }
-  ran held reading writing old new result (inner.NoMemory e same) = record {
-    statuses = omega (e, arith);
-    refused = λ two. absurd (apart 2 9 (omega arith) (sym two ∙ e));
-    not_accepted = λ none. absurd (none-some command (sym none ∙ is));
-    read = λ seven. absurd (apart 7 9 (omega arith) (sym seven ∙ e));
-    write = λ eight. absurd (apart 8 9 (omega arith) (sym eight ∙ e));
-    defined = λ lt. absurd (above result 7 lt (omega (e, arith)));
-    unread = λ seven. absurd (apart 7 9 (omega arith) (sym seven ∙ e));
-    front = λ _. all_held held (λ files. ([], inl (λ t s d'. (0, refl)), same ∙ same_grown old));
-  }
-
--- the laws
-
-module _ (one_run : (what : Tests) (program : Program) (bound : ℕ) → OneRun what program bound) where
-  run_one : (held : Held) (c : RunWords) (t t' : Word) (s s' : ℕ) → RunDefined held c t s → RunDefined held c t' s' → (t ≡ t') × (s ≡ s')
-  run_one held c t t' s s' (Missing m l r) (Missing m' l' r') = (l ∙ sym l', r ∙ sym r')
-  run_one held c t t' s s' (Missing m l r) (There b some f) = absurd (none-some b (sym m ∙ some))
-  run_one held c t t' s s' (There b some f) (Missing m l r) = absurd (none-some b (sym m ∙ some))
-  run_one held c t t' s s' (There b some f) (There b' some' f') =
-      file_one one_run b c t t' s s' f (subst (λ x. FileAnswers x c t' s') (same_some b' b (held c.file) some' some) f')
-
-  -- files and words have one answer
-  pub one_answer : OneAnswer
-  one_answer held words t t' s s' (NotAccepted n l r) (NotAccepted n' l' r') = (l ∙ sym l', r ∙ sym r')
-  one_answer held words t t' s s' (NotAccepted n l r) (Runs c is d) = absurd (none-some c (sym n ∙ is))
-  one_answer held words t t' s s' (Runs c is d) (NotAccepted n l r) = absurd (none-some c (sym n ∙ is))
-  one_answer held words t t' s s' (Runs c is d) (Runs c' is' d') =
-      run_one held c t t' s s' d (subst (λ x. RunDefined held x t' s') (same_some c' c (AcceptedWords words) is' is) d')
-
-module _ (ends : (what : Tests) (program : Program) → Ends what program) where
-  run_some : (held : Held) (c : RunWords) (file : Option Word) → held c.file ≡ file → ((text : Word) (status : ℕ) → RunDefined held c text status → ⊥) → ⊥
-  run_some held c None none never = never (file_fault c.file 0 (codes "NoFile")) 3 (Missing none refl refl)
-  run_some held c (Some bytes) some never = file_some ends bytes c (λ t s a. never t s (There bytes some a))
-
-  defined_some : (held : Held) (words : List Word) (command : Option RunWords) → AcceptedWords words ≡ command → ((text : Word) (status : ℕ) → Defined held words text status → ⊥) → ⊥
-  defined_some held words None none never = never (fault_line (codes "words")) 2 (NotAccepted none refl refl)
-  defined_some held words (Some c) is never = run_some held c (held c.file) refl (λ t s d. never t s (Runs c is d))
-
-  -- files and words are never without an answer
-  pub some_answer : SomeAnswer
-  some_answer held words = defined_some held words (AcceptedWords words) refl
+-- they follow those before
+pub follow : (held : Option Held) (command : RunWords) (old new : List FileRead) → OneRead held command old new → new ≡ old ++ new_reads old new
+follow held command old new one = one.told ∙ ap (λ reads. old ++ reads) (sym (one_new old new (read_of command one.answer) one.told))
 
 -- without a rise of a count the answer is defined, or memory was wanted
-pub complete : (held : Option Held) (words : List Word) (reading writing : Type 0) (old new : Option Word) (status : ℕ)
-    → Answered held words reading writing old new status → Complete held words reading writing old new status
-complete held words reading writing old new status a no_read no_write = by_status (small_or_fault status a.statuses)
+pub complete : (held : Option Held) (words : List Word) (reads : List FileRead) (reading writing : Type 0) (old new : Output) (status : ℕ)
+    → Answered held words reads reading writing old new status → Complete words reads reading writing old new status
+complete held words reads reading writing old new status a no_read no_write = by_status (small_or_fault status a.statuses)
   where
-    by_status : (status < 7) ⊎ ((status ≡ 7) ⊎ ((status ≡ 8) ⊎ (status ≡ 9))) → IfSome held (λ files. (status ≡ 9) ⊎ ((text : Word) × Defined files words text status × (new ≡ grown old text)))
-    by_status (inl lt) = on_held held (λ files. inr) (a.defined lt)
+    by_status : (status < 7) ⊎ ((status ≡ 7) ⊎ ((status ≡ 8) ⊎ (status ≡ 9))) → (status ≡ 9) ⊎ ((text : Word) × ((files : Held) → Agree reads files → Defined files words text status) × (new ≡ with_piece old text))
+    by_status (inl lt) = inr (a.defined lt)
     by_status (inr (inl e)) = absurd (no_read (a.read e))
     by_status (inr (inr (inl e))) = absurd (no_write (a.write e))
-    by_status (inr (inr (inr e))) = all_held held (λ files. inl e)
+    by_status (inr (inr (inr e))) = inl e

@@ -1,4 +1,5 @@
 -- What the reader of the module directive takes and turns away.
+use Rattle.term_core.specs.Shapes.{is_pair}
 use Rattle.std.proofs.Common.{◌≡◌, ℕ, List, [], ◌∷◌, ◌++◌, map, Option, Some, None, Result, Ok, Err, IfOk, IfNone, false, refl, ap, sym, ◌∙◌, true≢false}
 use Rattle.term_core.specs.declared.terms.Term.{Term, Atom, Node, out-Term}
 use Rattle.term_core.specs.declared.terms.Term.TheVariants.{outs-Atom, outs-Node}
@@ -8,7 +9,7 @@ use Rattle.ciao_reader.specs.Readings.{list_term}
 use Rattle.ciao_top.specs.Words.{Word}
 use Rattle.ciao_top.specs.declared.units.keys.Key.{Key}
 use Rattle.ciao_top.specs.SentenceTerms.{directive_term, export_term, IsModule}
-use Rattle.ciao_top.specs.SentenceParts.{is_pair, ListsExports, AreModuleArguments}
+use Rattle.ciao_top.specs.SentenceParts.{ListsExports, AreModuleArguments}
 use Rattle.ciao_top.proofs.NodeLaws.{same_parts, same_part, same_first, same_second, node_is_no_atom}
 
 -- exports, then what is left of a list

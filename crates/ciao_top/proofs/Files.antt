@@ -1,274 +1,180 @@
--- Answers of files and queries.
-use Rattle.std.proofs.Common.{◌≡◌, ◌⊎◌, inl, inr, ℕ, ◌<◌, ◌≤◌, List, take, length, refl, ◌∙◌, sym, ap, subst, Option, Some, None, codes, arith}
-use Rattle.std.proofs.lemmas.Bool.{cases_lt}
+-- What a read of a command's file says of all files that agree with it.
+use Rattle.std.proofs.Common.{◌≡◌, ◌⊎◌, inl, inr, ℕ, ◌+◌, ◌<◌, ◌≤◌, List, [], ◌∷◌, ◌++◌, take, drop, length, refl, ◌∙◌, sym, ap, subst, Option, Some, None, option_map, arith, lit<}
+use Rattle.std.specs.Prelude.{Result, Ok, Err, IfOk, IfErr, IfSome}
+use Rattle.std.specs.List.{AllByRecursion}
 use Rattle.std.proofs.lemmas.Option.{none-some}
 use Rattle.std.proofs.lemmas.List.{take_all, length-take}
+use Rattle.std.proofs.Math.Seq.{drop-append_seam}
+use Rattle.byte_io.specs.Outside.{Held, FileRead, Agrees, answer_of}
+use Rattle.byte_io.specs.declared.files.FilesFault.{FilesFault}
 use Rattle.term_core.specs.declared.terms.Term.{Term}
 use Rattle.term_core.specs.declared.operators.Operators.{Operators}
-use Rattle.term_core.specs.Standard.{IsMade}
-use Rattle.ciao_reader.specs.declared.sentences.ReadFault.{ReadFault}
-use Rattle.ciao_reader.specs.Faults.{IsUnread}
-use Rattle.ciao_reader.proofs.OneText.{one_fault}
 use Rattle.prog_data.specs.declared.programs.Program.{Program}
-use Rattle.prog_data.specs.declared.events.Event.{Event}
-use Rattle.prog_data.specs.declared.events.Ending.{Ending}
-use Rattle.prog_data.specs.Goals.{called_by}
-use Rattle.machine_model.specs.Tests.{Tests, every_condition}
-use Rattle.machine_model.specs.Run.{Run, RunsFrom, start_of}
-use Rattle.machine_model.specs.Laws.{OneRun, Ends}
-use Rattle.ciao_top.specs.Words.{Word, RunWords, base_of}
-use Rattle.ciao_top.specs.declared.units.sentences.Unit.{Unit}
-use Rattle.ciao_top.specs.declared.units.sentences.LinkResult.{LinkResult}
-use Rattle.ciao_top.specs.declared.units.sentences.LinkResult.TheVariants as link
-use Rattle.ciao_top.specs.Linked.{linked, linked_by, least, undefined_lines, program_of}
-use Rattle.ciao_top.specs.Lines.{fault_line, file_fault, fault_at, fault_word}
-use Rattle.ciao_top.specs.RunText.{RunText, ending_status}
-use Rattle.ciao_top.specs.Units.{size_limit, names_before, IsUnit, IsNotBuilt, IsQuery}
-use Rattle.ciao_top.specs.Answers.{with_names, QueryAnswers, Unread, NotExported, Ran, UnitAnswers, FileAnswers, TooLarge, NoSentences, NotBuilt, Built}
-use Rattle.ciao_top.specs.InnerAnswers as inner
-use Rattle.ciao_top.specs.InnerAnswers.{Only, Comes, CallAnswers}
-use Rattle.ciao_top.proofs.TextLaws.{one_unit, unit_built, one_not_built, unit_read, not_built_read, some_unit, unit_made, one_query}
-use Rattle.ciao_reader.proofs.EveryText.{every_text}
-use Rattle.ciao_top.proofs.Comings.{comes_as, comes_only}
-use Rattle.ciao_top.proofs.RunTexts.{same_some}
-use Rattle.ciao_top.proofs.Statuses.{above}
-
--- a query that calls no exported predicate
-not_exported_line : (program : Program) (query : Term) (bound : ℕ) → called_by program query ≡ None → (text : Word) (status : ℕ)
-    → CallAnswers program query bound text status → text ≡ fault_line (codes "query not exported")
-not_exported_line program query bound none text status (inner.NotExported n line is) = line
-not_exported_line program query bound none text status (inner.Ran events e run text_is is) = absurd (none-some run.1.pred (sym none ∙ run.1.calls))
-
--- its line was told
-pub not_exported : (program : Program) (query : Term) (bound : ℕ) (line : Word) (writing : Type 0) (old new : Option Word) (result : ℕ)
-    → called_by program query ≡ None → line ≡ fault_line (codes "query not exported")
-    → Comes (Only line 4) writing old new result → Comes (CallAnswers program query bound) writing old new result
-not_exported program query bound line writing old new result none same comes =
-    comes_only (CallAnswers program query bound) line 4 writing old new result (inner.NotExported none same refl)
-    (λ t s a. not_exported_line program query bound none t s a ∙ sym same) comes
-
--- a query that is unread
-unread_line : (program : Program) (ops : Operators) (command : RunWords) → ((names : List Word) (query : Term) → IsQuery ops program.names command.query names query → ⊥) → (text : Word) (status : ℕ)
-    → QueryAnswers program ops command text status → text ≡ fault_line (codes "query unread")
-unread_line program ops command never text status (Unread n line is) = line
-unread_line program ops command never text status (NotExported names query read none line is) = absurd (never names query read)
-unread_line program ops command never text status (Ran names query read events e run text_is is) = absurd (never names query read)
-
--- its line was told
-pub unread : (program : Program) (ops : Operators) (command : RunWords) (line : Word) (writing : Type 0) (old new : Option Word) (result : ℕ)
-    → ((names : List Word) (query : Term) → IsQuery ops program.names command.query names query → ⊥) → line ≡ fault_line (codes "query unread")
-    → Comes (Only line 4) writing old new result → Comes (QueryAnswers program ops command) writing old new result
-unread program ops command line writing old new result never same comes =
-    comes_only (QueryAnswers program ops command) line 4 writing old new result (Unread never same refl)
-    (λ t s a. unread_line program ops command never t s a ∙ sym same) comes
-
--- a query that was read, with operators that can be made
-module _ (program : Program) (ops : Operators) (command : RunWords) (names : List Word) (query : Term) (read : IsQuery ops program.names command.query names query) where
-  to_query : (text : Word) (status : ℕ) → CallAnswers (with_names names program) query command.steps text status → QueryAnswers program ops command text status
-  to_query text status (inner.NotExported none line is) = NotExported names query read none line is
-  to_query text status (inner.Ran events e run text_is is) = Ran names query read events e run text_is is
-
-  as_read : IsMade ops → (m : List Word) (q : Term) → IsQuery ops program.names command.query m q → (text : Word) (status : ℕ)
-      → CallAnswers (with_names m program) q command.steps text status → CallAnswers (with_names names program) query command.steps text status
-  as_read made m q other text status a =
-      let same : (m ≡ names) × (q ≡ query) = one_query ops made program.names command.query m names q query other read in
-      subst (λ x. CallAnswers (with_names x program) query command.steps text status) same.0 (subst (λ x. CallAnswers (with_names m program) x command.steps text status) same.1 a)
-
-  pub from_query : IsMade ops → (text : Word) (status : ℕ) → QueryAnswers program ops command text status → CallAnswers (with_names names program) query command.steps text status
-  from_query made text status (Unread never line is) = absurd (never names query read)
-  from_query made text status (NotExported m q other none line is) = as_read made m q other text status (inner.NotExported none line is)
-  from_query made text status (Ran m q other events e run text_is is) = as_read made m q other text status (inner.Ran events e run text_is is)
-
-  -- its answer is the file's
-  pub query_answers : IsMade ops → (writing : Type 0) (old new : Option Word) (result : ℕ)
-      → Comes (CallAnswers (with_names names program) query command.steps) writing old new result → Comes (QueryAnswers program ops command) writing old new result
-  query_answers made writing old new result comes =
-      comes_as (CallAnswers (with_names names program) query command.steps) (QueryAnswers program ops command) writing old new result to_query (from_query made) comes
-
--- a unit that names a predicate without clauses: its line was told
-pub undefined : (command : RunWords) (answer : LinkResult) (line : ℕ) (writing : Type 0) (old new : Option Word) (result : ℕ)
-    → answer ≡ link.Undefined line → Comes (Only (file_fault command.file line (codes "Undefined")) 3) writing old new result
-    → Comes (UnitAnswers answer command) writing old new result
-undefined command answer line writing old new result is comes =
-    subst (λ a. Comes (UnitAnswers a command) writing old new result) (sym is) comes
-
--- a unit that has a program: the answer of its query is the unit's
-pub unit_answers : (command : RunWords) (answer : LinkResult) (program : Program) (ops : Operators) (writing : Type 0) (old new : Option Word) (result : ℕ)
-    → answer ≡ link.Program program ops → Comes (QueryAnswers program ops command) writing old new result
-    → Comes (UnitAnswers answer command) writing old new result
-unit_answers command answer program ops writing old new result is comes =
-    subst (λ a. Comes (UnitAnswers a command) writing old new result) (sym is) comes
-
--- what the answers of a file are, by what its bytes are
-
-module _ (bytes : Word) (command : RunWords) where
-  from_large : size_limit < length bytes → (text : Word) (status : ℕ) → FileAnswers bytes command text status → Only (file_fault command.file 0 (codes "FileTooLarge")) 3 text status
-  from_large large text status (TooLarge more l r) = (l, r)
-  from_large large text status (NoSentences small fault unread l r) = absurd (above size_limit (length bytes) large small)
-  from_large large text status (NotBuilt small line is l r) = absurd (above size_limit (length bytes) large small)
-  from_large large text status (Built small m is a) = absurd (above size_limit (length bytes) large small)
-
-  from_unread : length bytes ≤ size_limit → (fault : ReadFault) → IsUnread bytes (names_before (base_of command.file)) fault → (text : Word) (status : ℕ) → FileAnswers bytes command text status
-      → Only (file_fault command.file (fault_at fault) (fault_word fault)) 3 text status
-  from_unread small fault unread text status (TooLarge large l r) = absurd (above size_limit (length bytes) large small)
-  from_unread small fault unread text status (NoSentences small' other unread' l r) =
-      (l ∙ ap (λ f. file_fault command.file (fault_at f) (fault_word f)) (one_fault bytes (names_before (base_of command.file)) other fault unread' unread), r)
-  from_unread small fault unread text status (NotBuilt small' line is l r) = absurd (not_built_read (base_of command.file) bytes line fault is unread)
-  from_unread small fault unread text status (Built small' m is a) = absurd (unit_read (base_of command.file) bytes m fault is unread)
-
-  from_not_built : length bytes ≤ size_limit → (line : ℕ) → IsNotBuilt (base_of command.file) bytes line → (text : Word) (status : ℕ) → FileAnswers bytes command text status
-      → Only (file_fault command.file line (codes "NotBuilt")) 3 text status
-  from_not_built small line is text status (TooLarge large l r) = absurd (above size_limit (length bytes) large small)
-  from_not_built small line is text status (NoSentences small' fault unread l r) = absurd (not_built_read (base_of command.file) bytes line fault is unread)
-  from_not_built small line is text status (NotBuilt small' other is' l r) =
-      (l ∙ ap (λ n. file_fault command.file n (codes "NotBuilt")) (one_not_built (base_of command.file) bytes other line is' is), r)
-  from_not_built small line is text status (Built small' m unit a) = absurd (unit_built (base_of command.file) bytes m line unit is)
-
-  pub from_unit : length bytes ≤ size_limit → (m : Unit) → IsUnit (base_of command.file) bytes m → (text : Word) (status : ℕ) → FileAnswers bytes command text status → UnitAnswers (linked m) command text status
-  from_unit small m is text status (TooLarge large l r) = absurd (above size_limit (length bytes) large small)
-  from_unit small m is text status (NoSentences small' fault unread l r) = absurd (unit_read (base_of command.file) bytes m fault is unread)
-  from_unit small m is text status (NotBuilt small' line not_built l r) = absurd (unit_built (base_of command.file) bytes m line is not_built)
-  from_unit small m is text status (Built small' n other a) = subst (λ x. UnitAnswers (linked x) command text status) (one_unit (base_of command.file) bytes n m other is) a
-
-  -- a line that is all of them was told
-  pub only_line : (line : Word) (writing : Type 0) (old new : Option Word) (result : ℕ) → FileAnswers bytes command line 3 → ((text : Word) (status : ℕ) → FileAnswers bytes command text status → Only line 3 text status)
-      → Comes (Only line 3) writing old new result → Comes (FileAnswers bytes command) writing old new result
-  only_line line writing old new result has one comes = comes_only (FileAnswers bytes command) line 3 writing old new result has (λ t s a. (one t s a).0) comes
-
-  -- the file is too large
-  pub large_told : size_limit < length bytes → (writing : Type 0) (old new : Option Word) (result : ℕ)
-      → Comes (Only (file_fault command.file 0 (codes "FileTooLarge")) 3) writing old new result → Comes (FileAnswers bytes command) writing old new result
-  large_told large writing old new result comes = only_line _ writing old new result (TooLarge large refl refl) (from_large large) comes
-
-  -- its text has no sentences
-  pub unread_told : (base : Word) → base ≡ base_of command.file → length bytes ≤ size_limit → (fault : ReadFault) → IsUnread bytes (names_before base) fault → (writing : Type 0) (old new : Option Word) (result : ℕ)
-      → Comes (Only (file_fault command.file (fault_at fault) (fault_word fault)) 3) writing old new result → Comes (FileAnswers bytes command) writing old new result
-  unread_told base same small fault unread writing old new result comes =
-      let known = subst (λ b. IsUnread bytes (names_before b) fault) same unread in
-      only_line _ writing old new result (NoSentences small fault known refl refl) (from_unread small fault known) comes
-
-  -- one of its sentences is not built yet
-  pub not_built_told : (base : Word) → base ≡ base_of command.file → length bytes ≤ size_limit → (line : ℕ) → IsNotBuilt base bytes line → (writing : Type 0) (old new : Option Word) (result : ℕ)
-      → Comes (Only (file_fault command.file line (codes "NotBuilt")) 3) writing old new result → Comes (FileAnswers bytes command) writing old new result
-  not_built_told base same small line is writing old new result comes =
-      let known = subst (λ b. IsNotBuilt b bytes line) same is in
-      only_line _ writing old new result (NotBuilt small line known refl refl) (from_not_built small line known) comes
-
-  -- the answer of its unit is the file's
-  pub file_answers : (base : Word) → base ≡ base_of command.file → length bytes ≤ size_limit → (m : Unit) → IsUnit base bytes m → (writing : Type 0) (old new : Option Word) (result : ℕ)
-      → Comes (UnitAnswers (linked m) command) writing old new result → Comes (FileAnswers bytes command) writing old new result
-  file_answers base same small m is writing old new result comes =
-      let known = subst (λ b. IsUnit b bytes m) same is in
-      comes_as (UnitAnswers (linked m) command) (FileAnswers bytes command) writing old new result (λ t s a. Built small m known a) (from_unit small m known) comes
+use Rattle.prog_data.specs.declared.refusals.RefusalKind.{RefusalKind}
+use Rattle.prog_data.specs.declared.refusals.RefusalKind.TheVariants as kind
+use Rattle.ciao_top.specs.Words.{Word, RunWords, shown}
+use Rattle.ciao_top.specs.declared.prepare.Prepared.{Prepared}
+use Rattle.ciao_top.specs.declared.stops.Stop.{Stop}
+use Rattle.ciao_top.specs.declared.stops.Stop.TheVariants as stop
+use Rattle.ciao_top.specs.declared.stops.Reason.TheVariants as reason
+use Rattle.ciao_top.specs.Units.{size_limit}
+use Rattle.ciao_top.specs.Answers.{FileRefused, TooLarge, NoSentences, NotBuilt, Undefined, IsLinked, HasProgram, HasQuery, CommandRefused, NoFile, OfFile, Unread, NotExported, Agree, new_reads}
+use Rattle.ciao_top.specs.InnerAnswers.{FileStops, IsRule, IsUnreadable, HasQueryOf, QueryFaults, Stops, Fronts, OneRead}
 
 -- a front that is longer than a file that is not too large
 
 front_is_whole : (most n : ℕ) (bytes : Word) → most < n → length (take n bytes) ≤ most → take n bytes ≡ bytes
 front_is_whole most n bytes lt le = take_all n bytes (omega (length-take n bytes, le, lt, arith))
 
-whole_is_front : (most n : ℕ) (bytes : Word) → most < n → length bytes ≤ most → take n bytes ≡ bytes
-whole_is_front most n bytes lt le = take_all n bytes (omega (le, lt, arith))
-
 large_front : (most n : ℕ) (bytes : Word) → most < length (take n bytes) → most < length bytes
 large_front most n bytes lt = omega (length-take n bytes, lt, arith)
 
-large_whole : (most n : ℕ) (bytes : Word) → most < n → most < length bytes → most < length (take n bytes)
-large_whole most n bytes lt large = omega (length-take n bytes, lt, large, arith)
+module _ (file whole : Word) where
+  -- the front of a file is refused as the file is
+  refused_of_front : (n line : ℕ) (rule : RefusalKind) → size_limit < n → FileRefused file (take n whole) line rule → FileRefused file whole line rule
+  refused_of_front n _ _ lt (TooLarge large) = TooLarge (large_front size_limit n whole large)
+  refused_of_front n _ _ lt (NoSentences small read unread line rule is) =
+      subst (λ w. FileRefused file w line rule) (front_is_whole size_limit n whole lt small) (NoSentences small read unread line rule is)
+  refused_of_front n _ _ lt (NotBuilt small line is) =
+      subst (λ w. FileRefused file w line kind.NotBuilt) (front_is_whole size_limit n whole lt small) (NotBuilt small line is)
+  refused_of_front n _ _ lt (Undefined small m unit line is) =
+      subst (λ w. FileRefused file w line kind.Undefined) (front_is_whole size_limit n whole lt small) (Undefined small m unit line is)
 
--- the front and the whole have the same answers
-pub answers_of_whole : (n : ℕ) (bytes : Word) (command : RunWords) → size_limit < n → (text : Word) (status : ℕ) → FileAnswers (take n bytes) command text status → FileAnswers bytes command text status
-answers_of_whole n bytes command lt text status (TooLarge large l r) = TooLarge (large_front size_limit n bytes large) l r
-answers_of_whole n bytes command lt text status (NoSentences small fault unread l r) =
-    subst (λ b. FileAnswers b command text status) (front_is_whole size_limit n bytes lt small) (NoSentences small fault unread l r)
-answers_of_whole n bytes command lt text status (NotBuilt small line is l r) =
-    subst (λ b. FileAnswers b command text status) (front_is_whole size_limit n bytes lt small) (NotBuilt small line is l r)
-answers_of_whole n bytes command lt text status (Built small m is a) =
-    subst (λ b. FileAnswers b command text status) (front_is_whole size_limit n bytes lt small) (Built small m is a)
+  -- it has the program that the file has
+  linked_of_front : (n : ℕ) (p : Program) (ops : Operators) → size_limit < n → IsLinked file (take n whole) p ops → IsLinked file whole p ops
+  linked_of_front n p ops lt a = subst (λ w. IsLinked file w p ops) (front_is_whole size_limit n whole lt a.small) a
 
-pub answers_of_front : (n : ℕ) (bytes : Word) (command : RunWords) → size_limit < n → (text : Word) (status : ℕ) → FileAnswers bytes command text status → FileAnswers (take n bytes) command text status
-answers_of_front n bytes command lt text status (TooLarge large l r) = TooLarge (large_whole size_limit n bytes lt large) l r
-answers_of_front n bytes command lt text status (NoSentences small fault unread l r) =
-    subst (λ b. FileAnswers b command text status) (sym (whole_is_front size_limit n bytes lt small)) (NoSentences small fault unread l r)
-answers_of_front n bytes command lt text status (NotBuilt small line is l r) =
-    subst (λ b. FileAnswers b command text status) (sym (whole_is_front size_limit n bytes lt small)) (NotBuilt small line is l r)
-answers_of_front n bytes command lt text status (Built small m is a) =
-    subst (λ b. FileAnswers b command text status) (sym (whole_is_front size_limit n bytes lt small)) (Built small m is a)
+-- the bytes that were read
 
--- one answer
+same_some : {A : Type 0} (a b : A) (o : Option A) → o ≡ Some a → o ≡ Some b → a ≡ b
+same_some a b o x y = cc
 
-module _ (one_run : (what : Tests) (program : Program) (bound : ℕ) → OneRun what program bound) where
-  runs_one : (program : Program) (query : Term) (bound : ℕ) (es es' : List Event) (e e' : Ending)
-      → Run program query bound es e → Run program query bound es' e' → (es ≡ es') × (e ≡ e')
-  runs_one program query bound es es' e e' a b =
-      let moved : RunsFrom (every_condition program) program bound (start_of a.1.pred query) es' b.0 e' =
-      subst (λ p. RunsFrom (every_condition program) program bound (start_of p query) es' b.0 e') (same_some b.1.pred a.1.pred (called_by program query) b.1.calls a.1.calls) b.1.runs in
-      let same = one_run (every_condition program) program bound (start_of a.1.pred query) es es' a.0 b.0 e e' a.1.runs moved in
-      (same.0, same.2)
+lacks : (f : Word → Word) (x : Option Word) → None ≡ option_map f x → x ≡ None
+lacks f None e = refl
+lacks f (Some w) e = absurd (none-some (f w) e)
 
-  call_one : (program : Program) (query : Term) (bound : ℕ) (t t' : Word) (s s' : ℕ) → CallAnswers program query bound t s → CallAnswers program query bound t' s' → (t ≡ t') × (s ≡ s')
-  call_one program query bound t t' s s' (inner.NotExported n l r) (inner.NotExported n' l' r') = (l ∙ sym l', r ∙ sym r')
-  call_one program query bound t t' s s' (inner.NotExported n l r) (inner.Ran es e run l' r') = absurd (none-some run.1.pred (sym n ∙ run.1.calls))
-  call_one program query bound t t' s s' (inner.Ran es e run l r) (inner.NotExported n l' r') = absurd (none-some run.1.pred (sym n ∙ run.1.calls))
-  call_one program query bound t t' s s' (inner.Ran es e run l r) (inner.Ran es' e' run' l' r') =
-      let same : (es ≡ es') × (e ≡ e') = runs_one program query bound es es' e e' run run' in
-      (l ∙ ap (λ x. RunText program x e) same.0 ∙ ap (RunText program es') same.1 ∙ sym l', r ∙ ap ending_status same.1 ∙ sym r')
+has : (f : Word → Word) (w : Word) (x : Option Word) → Some w ≡ option_map f x → (bytes : Word) × (x ≡ Some bytes) × (w ≡ f bytes)
+has f w None e = absurd (none-some w (sym e))
+has f w (Some b) e = (b, refl, same_some w (f b) (Some w) refl e)
 
-  query_one : (program : Program) (ops : Operators) → IsMade ops → (command : RunWords) (t t' : Word) (s s' : ℕ) → QueryAnswers program ops command t s → QueryAnswers program ops command t' s' → (t ≡ t') × (s ≡ s')
-  query_one program ops made command t t' s s' (Unread never l r) (Unread never' l' r') = (l ∙ sym l', r ∙ sym r')
-  query_one program ops made command t t' s s' (Unread never l r) (NotExported names query read none l' r') = absurd (never names query read)
-  query_one program ops made command t t' s s' (Unread never l r) (Ran names query read es e run l' r') = absurd (never names query read)
-  query_one program ops made command t t' s s' (NotExported names query read none l r) b =
-      call_one (with_names names program) query command.steps t t' s s' (inner.NotExported none l r) (from_query program ops command names query read made t' s' b)
-  query_one program ops made command t t' s s' (Ran names query read es e run l r) b =
-      call_one (with_names names program) query command.steps t t' s s' (inner.Ran es e run l r) (from_query program ops command names query read made t' s' b)
+module _ (command : RunWords) (reads : List FileRead) (bytes : Word) (fronts : Fronts command reads bytes) where
+  -- the program of the bytes that were read is that of the file
+  pub has_program : (files : Held) → Agree reads files → (p : Program) (ops : Operators) → IsLinked command.file bytes p ops → HasProgram files command p ops
+  has_program files agree p ops a =
+      let found = has (take (size_limit + 1)) bytes (files command.file) (fronts files agree) in
+      record { bytes = found.0; there = found.1; linked = linked_of_front command.file found.0 (size_limit + 1) p ops (lit< tt) (subst (λ w. IsLinked command.file w p ops) found.2 a) }
 
-  unit_one : (least_line : Option ℕ) (m : Unit) → IsMade m.ops → (command : RunWords) (t t' : Word) (s s' : ℕ)
-      → UnitAnswers (linked_by least_line m) command t s → UnitAnswers (linked_by least_line m) command t' s' → (t ≡ t') × (s ≡ s')
-  unit_one (Some line) m made command t t' s s' a b = (a.0 ∙ sym b.0, a.1 ∙ sym b.1)
-  unit_one None m made command t t' s s' a b = query_one (program_of m) m.ops made command t t' s s' a b
+  -- their query is its query
+  pub has_query : (files : Held) → Agree reads files → (p q : Program) (ops : Operators) (t : Term) → IsLinked command.file bytes p ops → HasQueryOf p ops command.query q t → HasQuery files command q t
+  has_query files agree p q ops t a b = record { before = p; ops = ops; has = has_program files agree p ops a; names = b.names; read = b.read; program_is = b.program_is }
 
-  same_only : (line : Word) (told : ℕ) (t t' : Word) (s s' : ℕ) → Only line told t s → Only line told t' s' → (t ≡ t') × (s ≡ s')
-  same_only line told t t' s s' a b = (a.0 ∙ sym b.0, a.1 ∙ sym b.1)
+  of_file : (files : Held) → Agree reads files → (name : Word) (line : ℕ) (rule : RefusalKind) → name ≡ shown command.file → FileRefused command.file bytes line rule → CommandRefused files command (reason.OfFile name line rule)
+  of_file files agree name line rule is refused =
+      let found = has (take (size_limit + 1)) bytes (files command.file) (fronts files agree) in
+      subst (λ w. CommandRefused files command (reason.OfFile w line rule)) (sym is)
+      (OfFile found.0 found.1 line rule (refused_of_front command.file found.0 (size_limit + 1) line rule (lit< tt) (subst (λ w. FileRefused command.file w line rule) found.2 refused)))
 
-  -- a file that is there has one answer
-  pub file_one : (bytes : Word) (command : RunWords) (t t' : Word) (s s' : ℕ) → FileAnswers bytes command t s → FileAnswers bytes command t' s' → (t ≡ t') × (s ≡ s')
-  file_one bytes command t t' s s' (TooLarge large l r) b = same_only _ 3 t t' s s' (l, r) (from_large bytes command large t' s' b)
-  file_one bytes command t t' s s' (NoSentences small fault unread l r) b = same_only _ 3 t t' s s' (l, r) (from_unread bytes command small fault unread t' s' b)
-  file_one bytes command t t' s s' (NotBuilt small line is l r) b = same_only _ 3 t t' s s' (l, r) (from_not_built bytes command small line is t' s' b)
-  file_one bytes command t t' s s' (Built small m is a) b =
-      unit_one (least (undefined_lines m)) m (unit_made (base_of command.file) bytes m is) command t t' s s' a (from_unit bytes command small m is t' s' b)
+  -- they are refused as the file is
+  pub file_stops : (reading : Type 0) (stop : Stop) → FileStops (shown command.file) (FileRefused command.file bytes) stop → Stops command reads reading stop
+  file_stops reading (stop.Refused (reason.OfFile name line rule)) a = λ files agree. of_file files agree name line rule a.0 a.1
+  file_stops reading (stop.Refused reason.NoCommand) a = absurd a
+  file_stops reading (stop.Refused reason.QueryUnread) a = absurd a
+  file_stops reading (stop.Refused reason.QueryNotExported) a = absurd a
+  file_stops reading (stop.Unreadable name) a = absurd a
+  file_stops reading stop.NoMemory a = tt
 
--- some answer
+  -- and their query
+  pub query_stops : (reading : Type 0) (p : Program) (ops : Operators) (stop : Stop) → IsLinked command.file bytes p ops → QueryFaults p ops command.query stop → Stops command reads reading stop
+  query_stops reading p ops (stop.Refused (reason.OfFile name line rule)) a b = absurd b
+  query_stops reading p ops (stop.Refused reason.NoCommand) a b = absurd b
+  query_stops reading p ops (stop.Refused reason.QueryUnread) a b = λ files agree. Unread p ops (has_program files agree p ops a) b
+  query_stops reading p ops (stop.Refused reason.QueryNotExported) a b = λ files agree. NotExported b.0 b.1 (has_query files agree p b.0 ops b.1 a b.2) b.3
+  query_stops reading p ops (stop.Unreadable name) a b = absurd b
+  query_stops reading p ops stop.NoMemory a b = tt
 
-module _ (ends : (what : Tests) (program : Program) → Ends what program) where
-  call_some : (program : Program) (query : Term) (bound : ℕ) (called : Option ℕ) → called_by program query ≡ called → ((text : Word) (status : ℕ) → CallAnswers program query bound text status → ⊥) → ⊥
-  call_some program query bound None none never = never (fault_line (codes "query not exported")) 4 (inner.NotExported none refl refl)
-  call_some program query bound (Some p) calls never =
-      let found = ends (every_condition program) program bound (start_of p query) in
-      never (RunText program found.0 found.2) (ending_status found.2)
-      (inner.Ran found.0 found.2 (found.1, record { pred = p; calls = calls; runs = found.3 }) refl refl)
+  -- the same of what a call answers
+  pub query_ok : (p : Program) (ops : Operators) (answer : Result Prepared Stop) → IsLinked command.file bytes p ops → IfOk answer (λ prepared. HasQueryOf p ops command.query prepared.program prepared.query)
+      → IfOk answer (λ prepared. (files : Held) → Agree reads files → HasQuery files command prepared.program prepared.query)
+  query_ok p ops (Ok prepared) a b = λ files agree. has_query files agree p prepared.program ops prepared.query a b
+  query_ok p ops (Err stop) a b = tt
 
-  query_some : (program : Program) (ops : Operators) (command : RunWords) → ((text : Word) (status : ℕ) → QueryAnswers program ops command text status → ⊥) → ⊥
-  query_some program ops command never =
-      never (fault_line (codes "query unread")) 4
-      (Unread (λ names query read. call_some (with_names names program) query command.steps (called_by (with_names names program) query) refl (λ t s a. never t s (to_query program ops command names query read t s a))) refl refl)
+  pub query_err : (reading : Type 0) (p : Program) (ops : Operators) (answer : Result Prepared Stop) → IsLinked command.file bytes p ops → IfErr answer (QueryFaults p ops command.query) → IfErr answer (Stops command reads reading)
+  query_err reading p ops (Ok prepared) a b = tt
+  query_err reading p ops (Err stop) a b = query_stops reading p ops stop a b
 
-  unit_some : (answer : LinkResult) (command : RunWords) → ((text : Word) (status : ℕ) → UnitAnswers answer command text status → ⊥) → ⊥
-  unit_some (link.Undefined line) command never = never (file_fault command.file line (codes "Undefined")) 3 (refl, refl)
-  unit_some (link.Program program ops) command never = query_some program ops command never
+-- the read
 
-  small_some : (bytes : Word) (command : RunWords) → length bytes ≤ size_limit → ((text : Word) (status : ℕ) → FileAnswers bytes command text status → ⊥) → ⊥
-  small_some bytes command small never =
-      every_text bytes (names_before (base_of command.file))
-      (λ names s has. some_unit (base_of command.file) bytes names s has
-      (λ m is. unit_some (linked m) command (λ t s a. never t s (Built small m is a)))
-      (λ line is. never (file_fault command.file line (codes "NotBuilt")) 3 (NotBuilt small line is refl refl)))
-      (λ fault unread. never (file_fault command.file (fault_at fault) (fault_word fault)) 3 (NoSentences small fault unread refl refl))
+abbrev pub read_of : RunWords → Result (Option Word) FilesFault → FileRead
+read_of command answer = record { name = command.file; most = size_limit + 1; answer = answer }
 
-  -- a file that is there is never without an answer
-  pub file_some : (bytes : Word) (command : RunWords) → ((text : Word) (status : ℕ) → FileAnswers bytes command text status → ⊥) → ⊥
-  file_some bytes command never = by (cases_lt size_limit (length bytes))
+-- the reads of the call are the one
+pub one_new : (old new : List FileRead) (read : FileRead) → new ≡ old ++ read ∷ [] → new_reads old new ≡ read ∷ []
+one_new old new read is = ap (drop (length old)) is ∙ drop-append_seam old (read ∷ [])
+
+module _ (command : RunWords) (answer : Result (Option Word) FilesFault) (old new : List FileRead) (told : new ≡ old ++ read_of command answer ∷ []) where
+  -- files that agree with the reads agree with the one
+  pub agrees : (files : Held) → Agree (new_reads old new) files → Agrees files (read_of command answer)
+  agrees files agree = (subst (λ reads. Agree reads files) (one_new old new (read_of command answer) told) agree).0
+
+-- no file was read
+pub no_file : (command : RunWords) (old new : List FileRead) (reading : Type 0) (stop : Stop) → new ≡ old ++ read_of command (Ok None) ∷ []
+    → FileStops (shown command.file) (IsRule 0 kind.NoFile) stop → Stops command (new_reads old new) reading stop
+no_file command old new reading (stop.Refused (reason.OfFile name line rule)) told a = λ files agree.
+    let none = lacks (take (size_limit + 1)) (files command.file) (agrees command (Ok None) old new told files agree) in
+    subst (λ w. CommandRefused files command (reason.OfFile w line rule)) (sym a.0)
+    (subst (λ n. CommandRefused files command (reason.OfFile (shown command.file) n rule)) (sym a.1.0)
+    (subst (λ r. CommandRefused files command (reason.OfFile (shown command.file) 0 r)) (sym a.1.1) (NoFile none)))
+no_file command old new reading (stop.Refused reason.NoCommand) told a = absurd a
+no_file command old new reading (stop.Refused reason.QueryUnread) told a = absurd a
+no_file command old new reading (stop.Refused reason.QueryNotExported) told a = absurd a
+no_file command old new reading (stop.Unreadable name) told a = absurd a
+no_file command old new reading stop.NoMemory told a = tt
+
+-- bytes were read
+pub fronts_of : (command : RunWords) (old new : List FileRead) (bytes : Word) → new ≡ old ++ read_of command (Ok (Some bytes)) ∷ [] → Fronts command (new_reads old new) bytes
+fronts_of command old new bytes told files agree = agrees command (Ok (Some bytes)) old new told files agree
+
+-- the file could not be read
+pub unreadable_stops : (command : RunWords) (reads : List FileRead) (reading : Type 0) (stop : Stop) → reading → IsUnreadable (shown command.file) stop → Stops command reads reading stop
+unreadable_stops command reads reading (stop.Refused why) rose a = absurd a
+unreadable_stops command reads reading (stop.Unreadable name) rose a = (rose, a)
+unreadable_stops command reads reading stop.NoMemory rose a = tt
+
+-- some files agree with a read
+some_files : (command : RunWords) (answer : Result (Option Word) FilesFault) → IfOk answer (λ given. IfSome given (λ bytes. length bytes ≤ size_limit + 1)) → (files : Held) × Agrees files (read_of command answer)
+some_files command (Ok (Some bytes)) small = ((λ name. Some bytes), sym (ap Some (take_all (size_limit + 1) bytes small)))
+some_files command (Ok None) small = ((λ name. None), refl)
+some_files command (Err fault) small = ((λ name. None), tt)
+
+pub one_read : (held : Option Held) (command : RunWords) (answer : Result (Option Word) FilesFault) (old new : List FileRead)
+    → new ≡ old ++ read_of command answer ∷ [] → IfOk answer (λ given. IfSome given (λ bytes. length bytes ≤ size_limit + 1))
+    → IfSome held (λ files. Agrees files (read_of command answer)) → OneRead held command old new
+one_read held command answer old new told small agree =
+    let some = some_files command answer small in record { answer = answer; told = told; files = some.0; agree = some.1; told_agree = agree }
+
+-- a read and its result
+module _ {V : Type 0} (items : V → Word) (command : RunWords) (old new : List FileRead) where
+  -- with this result it was told so
+  pub told_as : (result r : Result (Option V) FilesFault) → result ≡ r → new ≡ old ++ read_of command (answer_of items result) ∷ [] → new ≡ old ++ read_of command (answer_of items r) ∷ []
+  told_as result r is told = subst (λ x. new ≡ old ++ read_of command (answer_of items x) ∷ []) is told
+
+  pub one_read_of : (held : Option Held) (result : Result (Option V) FilesFault) → new ≡ old ++ read_of command (answer_of items result) ∷ []
+      → IfOk result (λ answer. IfSome answer (λ v. length (items v) ≤ size_limit + 1))
+      → IfOk result (λ answer. IfSome held (λ files. option_map items answer ≡ option_map (take (size_limit + 1)) (files command.file)))
+      → OneRead held command old new
+  one_read_of held (Ok (Some v)) told small agree = one_read held command (Ok (Some (items v))) old new told small agree
+  one_read_of held (Ok None) told small agree = one_read held command (Ok None) old new told tt agree
+  one_read_of held (Err fault) told small agree = one_read held command (Err fault) old new told tt (unasked held)
     where
-      by : (size_limit < length bytes) ⊎ (length bytes ≤ size_limit) → ⊥
-      by (inl large) = never (file_fault command.file 0 (codes "FileTooLarge")) 3 (TooLarge large refl refl)
-      by (inr small) = small_some bytes command small never
+      unasked : (h : Option Held) → IfSome h (λ files. Agrees files (read_of command (Err fault)))
+      unasked None = tt
+      unasked (Some files) = tt
+
+-- a rule that is told of a file is one that it breaks
+pub refused_as : (file : Word) (breaks : ℕ → RefusalKind → Type 0) (line : ℕ) (rule : RefusalKind) (stop : Stop) → breaks line rule → FileStops file (IsRule line rule) stop → FileStops file breaks stop
+refused_as file breaks line rule (stop.Refused (reason.OfFile name l r)) b a = (a.0, subst (λ n. breaks n r) (sym a.1.0) (subst (breaks line) (sym a.1.1) b))
+refused_as file breaks line rule (stop.Refused reason.NoCommand) b a = absurd a
+refused_as file breaks line rule (stop.Refused reason.QueryUnread) b a = absurd a
+refused_as file breaks line rule (stop.Refused reason.QueryNotExported) b a = absurd a
+refused_as file breaks line rule (stop.Unreadable name) b a = absurd a
+refused_as file breaks line rule stop.NoMemory b a = tt

@@ -1,6 +1,8 @@
+pub mod Answers
 pub mod AssertionLaws
 pub mod AssertionSteps
 pub mod BodyFolds
+pub mod BrokenRules
 pub mod ClauseSteps
 pub mod Comings
 pub mod Compounds
@@ -16,6 +18,7 @@ pub mod NodeLaws
 pub mod Numbers
 pub mod Partners
 pub mod ReadingLaws
+pub mod Refusals
 pub mod RunEnds
 pub mod RunTexts
 pub mod SentenceLaws

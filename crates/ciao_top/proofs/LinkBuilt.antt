@@ -1,10 +1,9 @@
 -- The program of a unit is one that the engine runs.
 use Rattle.std.proofs.Common.{◌≡◌, ℕ, zero, suc, ◌+◌, Bool, true, false, not, List, [], ◌∷◌, ◌++◌, map, filter, length, Option, None, Some, slice_get, refl, sym, ap, ◌∙◌, subst}
-use Rattle.std.specs.Prelude.{⊤, option_map, Result, Ok, Err, IfOk}
+use Rattle.std.specs.Prelude.{⊤, option_map}
 use Rattle.std.specs.List.{list_all}
 use Rattle.std.proofs.lemmas.Bool.{and_from}
 use Rattle.term_core.specs.declared.terms.Term.{Term}
-use Rattle.term_core.specs.declared.operators.Operators.{Operators}
 use Rattle.prog_data.specs.declared.conditions.Cond.{Cond}
 use Rattle.prog_data.specs.declared.goals.Goal.{Goal}
 use Rattle.prog_data.specs.declared.programs.Program.{Program}
@@ -19,10 +18,8 @@ use Rattle.ciao_top.specs.declared.units.clauses.Body.TheOpen as layer
 use Rattle.ciao_top.specs.declared.units.clauses.ReadClause.{ReadClause}
 use Rattle.ciao_top.specs.declared.units.assertions.ReadAssertion.{ReadAssertion}
 use Rattle.ciao_top.specs.declared.units.sentences.Unit.{Unit}
-use Rattle.ciao_top.specs.declared.units.sentences.LinkResult.{LinkResult}
-use Rattle.ciao_top.specs.declared.units.sentences.LinkResult.TheVariants as link
 use Rattle.ciao_top.specs.Conditions.{is_about, has_post, success_conditions, conditions_of, conditions_from}
-use Rattle.ciao_top.specs.Linked.{keys_of, assertions_of, call_of, body_step, goal_of, body_of, clause_of, unit_conditions, pred_with, program_of, least, undefined_lines, linked_by, linked}
+use Rattle.ciao_top.specs.Linked.{keys_of, assertions_of, call_of, body_step, goal_of, body_of, clause_of, unit_conditions, pred_with, program_of}
 use Rattle.sld_engine.specs.Built.{built_goal_step, is_built_goal, is_not_comp, is_built_pred, is_built}
 use denote.Hole.Holds
 use denote.Hole.Carrier
@@ -114,16 +111,6 @@ preds_are_built m [] = refl
 preds_are_built m (k ∷ ks) =
     and_from _ _ (and_from _ _ (each (is_not_comp (program_of m)) (no_comp m) _) (clauses_are_built (keys_of m) m.file _)) (preds_are_built m ks)
 
--- a linked program is built
-pub linked_is_built : (m : Unit) (p : Program) (ops : Operators) → linked m ≡ link.Program p ops → is_built p ≡ true
-linked_is_built m p ops is = by (least (undefined_lines m)) is
-  where
-    by : (o : Option ℕ) → linked_by o m ≡ link.Program p ops → is_built p ≡ true
-    by None e = let same : program_of m ≡ p = cc in sym (ap is_built same) ∙ preds_are_built m (keys_of m)
-    by (Some line) e = let no : ⊥ = cc in absurd no
-
--- an answer that is the linked unit has a built program, where it has one
-pub answer_is_built : {E : Type 0} (m : Unit) (answer : Result LinkResult E) → IfOk answer (λ a. a ≡ linked m)
-    → IfOk answer (λ a. (p : Program) (ops : Operators) → a ≡ link.Program p ops → is_built p ≡ true)
-answer_is_built m (Ok a) is = λ p ops e. linked_is_built m p ops (sym is ∙ e)
-answer_is_built m (Err e) is = is
+-- the program of a unit is built
+pub unit_is_built : (m : Unit) → is_built (program_of m) ≡ true
+unit_is_built m = preds_are_built m (keys_of m)

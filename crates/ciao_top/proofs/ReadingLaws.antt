@@ -2,7 +2,7 @@
 use Rattle.std.proofs.Common.{◌≡◌, List, [], ◌∷◌, length, refl, ap, sym, ◌∙◌, arith}
 use Rattle.term_core.specs.declared.terms.Term.{Term}
 use Rattle.term_core.specs.declared.terms.Term as term
-use Rattle.term_core.specs.declared.fixed.TheConstants.{NECK}
+use Rattle.term_core.specs.declared.fixed.TheConstants.{NECK, COLON, IMPLIES, PRED}
 use Rattle.ciao_reader.specs.declared.sentences.Sentence.{Sentence}
 use Rattle.ciao_top.specs.Words.{Word}
 use Rattle.ciao_top.specs.declared.units.clauses.ReadClause.{ReadClause}
@@ -18,9 +18,9 @@ use Rattle.ciao_top.proofs.SentenceLaws.{one_clause, no_directive_clause}
 -- `pred` has one argument, and `op` has three
 no_changed_assertion : (names : List Word) (s : Sentence) (a : ReadAssertion) → ChangesOperators names s.term → IsAssertion s a → ⊥
 no_changed_assertion names s a x y =
-    let t = with_field 28 (with_field 46 y.head y.pre) y.post in
-    let same = same_part NECK NECK (term.Node 19 (t ∷ [])) (term.Node x.directive x.parts) (sym y.whole ∙ x.whole) in
-    let parts : t ∷ [] ≡ x.parts = same_parts 19 x.directive (t ∷ []) x.parts same in
+    let t = with_field IMPLIES (with_field COLON y.head y.pre) y.post in
+    let same = same_part NECK NECK (term.Node PRED (t ∷ [])) (term.Node x.directive x.parts) (sym y.whole ∙ x.whole) in
+    let parts : t ∷ [] ≡ x.parts = same_parts PRED x.directive (t ∷ []) x.parts same in
     let one : 1 ≡ length x.parts = ap length parts in
     let three : length x.parts ≡ 3 = x.three in
     omega arith
@@ -29,7 +29,7 @@ no_changed_clause : (names : List Word) (s : Sentence) (c : ReadClause) → Chan
 no_changed_clause names s c x y = no_directive_clause s c (term.Node x.directive x.parts) y x.whole
 
 no_asserted_clause : (s : Sentence) (c : ReadClause) (a : ReadAssertion) → IsAssertion s a → IsClause s c → ⊥
-no_asserted_clause s c a x y = no_directive_clause s c (term.Node 19 (with_field 28 (with_field 46 x.head x.pre) x.post ∷ [])) y x.whole
+no_asserted_clause s c a x y = no_directive_clause s c (term.Node PRED (with_field IMPLIES (with_field COLON x.head x.pre) x.post ∷ [])) y x.whole
 
 -- a sentence is read as one thing
 pub one_read : (names : List Word) (s : Sentence) (r q : ReadSentence) → IsRead names s r → IsRead names s q → r ≡ q

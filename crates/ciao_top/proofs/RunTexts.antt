@@ -1,22 +1,20 @@
 -- What a run tells, one event at a time.
-use Rattle.std.proofs.Common.{◌≡◌, ℕ, ◌+◌, List, [], ◌∷◌, ◌++◌, take, refl, ◌∙◌, sym, ap, subst, Option, Some, None, flat_map, MatchOption, IfNone, IsSome, is_some, true≢false}
+use Rattle.std.proofs.Common.{◌≡◌, ℕ, ◌+◌, List, [], ◌∷◌, ◌++◌, take, refl, ◌∙◌, sym, ap, subst, Option, Some, None, flat_map, MatchOption, IfNone}
 use Rattle.std.proofs.lemmas.List.{append_assoc}
 use Rattle.std.proofs.lemmas.Option.{none-some}
-use Rattle.byte_io.specs.Outside.{grown, GrewByPrefix}
 use Rattle.term_core.specs.declared.terms.Term.{Term}
 use Rattle.prog_data.specs.declared.programs.Program.{Program}
 use Rattle.prog_data.specs.declared.events.Event.{Event}
 use Rattle.prog_data.specs.declared.events.Event.TheVariants.{Out, Answer, End, Broken}
 use Rattle.prog_data.specs.declared.events.Ending.{Ending}
-use Rattle.prog_data.specs.Goals.{called_by}
 use Rattle.machine_model.specs.Tests.{every_condition}
 use Rattle.machine_model.specs.Continues.{Left, Continues, Leads, EndsBy, IsNext}
 use Rattle.sld_engine.specs.declared.run.Run as engine
 use Rattle.sld_engine.specs.Runs.{left_of, program_of, bound_of, Starts, HasTold}
 use Rattle.ciao_top.specs.Words.{Word}
 use Rattle.ciao_top.specs.RunText.{RunText, event_text, ending_text, ending_status}
-use Rattle.ciao_top.specs.Answers.{IsPrefix}
-use Rattle.ciao_top.specs.InnerAnswers.{HasBegun, Comes, Whole, HasWritten, event_status, RunTells, GoesOn, CallAnswers, NotExported, Ran}
+use Rattle.ciao_top.specs.Answers.{IsPrefix, Output, with_piece, RunAnswers}
+use Rattle.ciao_top.specs.InnerAnswers.{GrewByFront, HasBegun, Comes, Whole, HasWritten, event_status, RunTells, GoesOn}
 use Rattle.ciao_top.proofs.Comings.{front_of_first, comes_as}
 
 -- what an option has is one
@@ -38,9 +36,9 @@ module _ (program : Program) (bound : ℕ) where
     pub next : IsNext (every_condition program) program bound before event made after
 
   -- an event and then what comes behind it
-  tells_written : (o n : Option Left) (before after : Left) (event : Event) (made : ℕ) (old new : Option Word) → o ≡ Some before → n ≡ Some after
+  tells_written : (o n : Option Left) (before after : Left) (event : Event) (made : ℕ) (old new : Output) → o ≡ Some before → n ≡ Some after
       → Leads (every_condition program) program bound before (event ∷ []) made after
-      → new ≡ grown old (event_text program event) → HasWritten (RunTells program bound o) (RunTells program bound n) old new
+      → new ≡ with_piece old (event_text program event) → HasWritten (RunTells program bound o) (RunTells program bound n) old new
   tells_written o n before after event made old new was is tells grew = record {
     piece = event_text program event;
     grew = grew;
@@ -63,8 +61,8 @@ module _ (program : Program) (bound : ℕ) where
   }
 
   -- the run goes on after an event that was written
-  pub goes_on : (o n : Option Left) (event : Event) (old new : Option Word) → IsNextAt o event n → None ≡ event_status event
-      → new ≡ grown old (event_text program event) → HasWritten (RunTells program bound o) (RunTells program bound n) old new
+  pub goes_on : (o n : Option Left) (event : Event) (old new : Output) → IsNextAt o event n → None ≡ event_status event
+      → new ≡ with_piece old (event_text program event) → HasWritten (RunTells program bound o) (RunTells program bound n) old new
   goes_on o n (Out text) old new next none grew = tells_written o n next.before next.after (Out text) next.made old new next.was next.is next.next grew
   goes_on o n (Answer query) old new next none grew = tells_written o n next.before next.after (Answer query) next.made old new next.was next.is next.next grew
   goes_on o n (Broken c) old new next none grew = tells_written o n next.before next.after (Broken c) next.made old new next.was next.is next.next grew
@@ -75,8 +73,8 @@ module _ (program : Program) (bound : ℕ) where
   ended_tells before after made e ends = ends.leads.forth [] 0 e (subst (λ l. Comes_of l [] 0 e) (sym ends.over) (refl, refl, refl))
 
   -- the run ends with an ending that was written
-  pub has_ended : (o n : Option Left) (event : Event) (status : ℕ) (writing : Type 0) (old new : Option Word) → IsNextAt o event n → Some status ≡ event_status event
-      → new ≡ grown old (event_text program event) → Comes (RunTells program bound o) writing old new status
+  pub has_ended : (o n : Option Left) (event : Event) (status : ℕ) (writing : Type 0) (old new : Output) → IsNextAt o event n → Some status ≡ event_status event
+      → new ≡ with_piece old (event_text program event) → Comes (RunTells program bound o) writing old new status
   has_ended o n (Out text) status writing old new next is grew = absurd (none-some status (sym is))
   has_ended o n (Answer query) status writing old new next is grew = absurd (none-some status (sym is))
   has_ended o n (Broken c) status writing old new next is grew = absurd (none-some status (sym is))
@@ -91,9 +89,9 @@ module _ (program : Program) (bound : ℕ) where
     status_is = same_some status (ending_status e) (Some status) refl is;
   }) grew
 
-  tells_begun : (o : Option Left) (before after : Left) (event : Event) (made : ℕ) (old new : Option Word) → o ≡ Some before
+  tells_begun : (o : Option Left) (before after : Left) (event : Event) (made : ℕ) (old new : Output) → o ≡ Some before
       → Leads (every_condition program) program bound before (event ∷ []) made after
-      → GrewByPrefix old new (event_text program event) → HasBegun (RunTells program bound o) old new
+      → GrewByFront old new (event_text program event) → HasBegun (RunTells program bound o) old new
   tells_begun o before after event made old new was tells g = record {
     piece = take g.0 (event_text program event);
     begins = λ t s x.
@@ -112,8 +110,8 @@ module _ (program : Program) (bound : ℕ) where
       (y.2 ∙ none.0, none.2)
 
   -- a prefix of the next event was written
-  pub event_begun : (o n : Option Left) (event : Event) (old new : Option Word) → IsNextAt o event n
-      → GrewByPrefix old new (event_text program event) → HasBegun (RunTells program bound o) old new
+  pub event_begun : (o n : Option Left) (event : Event) (old new : Output) → IsNextAt o event n
+      → GrewByFront old new (event_text program event) → HasBegun (RunTells program bound o) old new
   event_begun o n (Out text) old new next g = tells_begun o next.before next.after (Out text) next.made old new next.was next.next g
   event_begun o n (Answer query) old new next g = tells_begun o next.before next.after (Answer query) next.made old new next.was next.next g
   event_begun o n (Broken c) old new next g = tells_begun o next.before next.after (Broken c) next.made old new next.was next.next g
@@ -138,8 +136,8 @@ module _ (program : Program) (bound : ℕ) where
   next_goes o n event (Some s) next is = tt
 
   -- the run goes on, or ends, after an event that was written
-  pub comes_next : (o n : Option Left) (event : Event) (status : Option ℕ) (writing : Type 0) (old new : Option Word) → IsNextAt o event n → status ≡ event_status event
-      → new ≡ grown old (event_text program event)
+  pub comes_next : (o n : Option Left) (event : Event) (status : Option ℕ) (writing : Type 0) (old new : Output) → IsNextAt o event n → status ≡ event_status event
+      → new ≡ with_piece old (event_text program event)
       → MatchOption status (HasWritten (RunTells program bound o) (RunTells program bound n) old new) (λ s. Comes (RunTells program bound o) writing old new s)
   comes_next o n event None writing old new next is grew = goes_on o n event old new next is grew
   comes_next o n event (Some s) writing old new next is grew = has_ended o n event s writing old new next is grew
@@ -153,27 +151,26 @@ told_at program old new event same told =
 
 -- the run of a query from its start
 module _ (program : Program) (query : Term) (bound : ℕ) (run : engine.Run) (starts : Starts program query bound run) where
-  to_call : (text : Word) (status : ℕ) → RunTells program bound (left_of run) text status → CallAnswers program query bound text status
-  to_call text status x =
+  to_answers : (text : Word) (status : ℕ) → RunTells program bound (left_of run) text status → RunAnswers program query bound text status
+  to_answers text status x =
       let comes = subst (λ p. Comes_of program bound p x.events x.tests x.ending) (same_some x.now starts.whole (left_of run) x.is_now starts.is) x.continues in
-      Ran x.events x.ending (x.tests, starts.forth x.events x.tests x.ending comes) x.text_is x.status_is
+      record { events = x.events; ending = x.ending; runs = (x.tests, starts.forth x.events x.tests x.ending comes); text_is = x.text_is; status_is = x.status_is }
 
-  from_call : IsSome (called_by program query) → (text : Word) (status : ℕ) → CallAnswers program query bound text status → RunTells program bound (left_of run) text status
-  from_call called text status (NotExported none line is) = absurd (true≢false (sym called ∙ ap is_some none))
-  from_call called text status (Ran events e ran text_is status_is) = record {
+  from_answers : (text : Word) (status : ℕ) → RunAnswers program query bound text status → RunTells program bound (left_of run) text status
+  from_answers text status x = record {
     now = starts.whole;
     is_now = starts.is;
-    events = events;
-    tests = ran.0;
-    ending = e;
-    continues = starts.back events ran.0 e ran.1;
-    text_is = text_is;
-    status_is = status_is;
+    events = x.events;
+    tests = x.runs.0;
+    ending = x.ending;
+    continues = starts.back x.events x.runs.0 x.ending x.runs.1;
+    text_is = x.text_is;
+    status_is = x.status_is;
   }
 
   -- what the run tells from its start answers the query
-  pub run_answers : (b : ℕ) (writing : Type 0) (old new : Option Word) (result : ℕ) → IsSome (called_by program query) → b ≡ bound
-      → Comes (RunTells program b (left_of run)) writing old new result → Comes (CallAnswers program query bound) writing old new result
-  run_answers b writing old new result called same comes =
-      comes_as (RunTells program bound (left_of run)) (CallAnswers program query bound) writing old new result to_call (from_call called)
+  pub run_answers : (b : ℕ) (writing : Type 0) (old new : Output) (result : ℕ) → b ≡ bound
+      → Comes (RunTells program b (left_of run)) writing old new result → Comes (RunAnswers program query bound) writing old new result
+  run_answers b writing old new result same comes =
+      comes_as (RunTells program bound (left_of run)) (RunAnswers program query bound) writing old new result to_answers from_answers
       (subst (λ n. Comes (RunTells program n (left_of run)) writing old new result) same comes)

@@ -3,7 +3,7 @@ use Rattle.std.proofs.Common.{◌≡◌, ℕ, List, [], ◌∷◌, map, pos, Opt
 use Rattle.std.specs.List.{list_all}
 use Rattle.term_core.specs.declared.terms.Term.{Term, Atom, Node, out-Term}
 use Rattle.term_core.specs.declared.terms.Term.TheVariants.{outs-Node}
-use Rattle.term_core.specs.declared.fixed.TheConstants.{NIL, CELL, COMMA, NECK}
+use Rattle.term_core.specs.declared.fixed.TheConstants.{NIL, CELL, COMMA, NECK, SLASH}
 use Rattle.ciao_reader.specs.declared.sentences.Sentence.{Sentence}
 use Rattle.ciao_reader.specs.Readings.{list_term}
 use Rattle.ciao_top.specs.declared.units.keys.Key.{Key}
@@ -93,8 +93,8 @@ no_directive_clause s c d x e = no_directive c.head d c.body (sym x.whole ∙ e)
 -- a term is one export at most
 pub one_export : (x y : Key) → export_term x ≡ export_term y → x ≡ y
 one_export x y e =
-    let name : x.name ≡ y.name = same_atom x.name y.name (same_first 50 50 _ _ _ _ e) in
-    let arity : x.arity ≡ y.arity = whole x.arity y.arity (same_integer (pos x.arity) (pos y.arity) (same_second 50 50 _ _ _ _ e)) in
+    let name : x.name ≡ y.name = same_atom x.name y.name (same_first SLASH SLASH _ _ _ _ e) in
+    let arity : x.arity ≡ y.arity = whole x.arity y.arity (same_integer (pos x.arity) (pos y.arity) (same_second SLASH SLASH _ _ _ _ e)) in
     λ i. record { name = name i; arity = arity i }
   where
     whole : (m n : ℕ) → pos m ≡ pos n → m ≡ n

@@ -11,7 +11,8 @@ use Rattle.ciao_reader.specs.declared.sentences.Source.{Source}
 use Rattle.ciao_reader.specs.declared.sentences.ReadFault.{ReadFault}
 use Rattle.ciao_reader.specs.declared.sentences.ReadFault.TheVariants.{NotUtf8, BadToken, IntRange, Syntax, TooDeep, OpRefused, NoEnd, NoMemory}
 use Rattle.ciao_reader.specs.Sentences.{HasSentences, HasGoal, ReadsTo, none, next}
-use Rattle.ciao_reader.specs.Faults.{IsUnread, IsNoGoal, IsFaultOf, IsGoalFaultOf}
+use Rattle.ciao_tokens.specs.declared.kinds.TextFault.TheVariants as text
+use Rattle.ciao_reader.specs.Faults.{of_tokens, of_sentences, IsUnread, IsNoGoal, IsFaultOf, IsGoalFaultOf}
 use Rattle.ciao_reader.proofs.MadeAfter.{made_after}
 use Rattle.ciao_reader.proofs.OneText.{one_source, no_fault, one_goal_text, no_goal_fault_text}
 use Rattle.ciao_top.specs.Words.{Word}
@@ -19,6 +20,10 @@ use Rattle.ciao_top.specs.declared.units.keys.Key.{Key}
 use Rattle.ciao_top.specs.declared.units.sentences.ReadSentence.{ReadSentence}
 use Rattle.ciao_top.specs.declared.units.sentences.Unit.{Unit}
 use Rattle.ciao_top.specs.Units.{file_text, names_before, AreRead, NotBuiltAt, IsUnit, IsNotBuilt, IsQuery}
+use Rattle.prog_data.specs.declared.refusals.RefusalKind.{RefusalKind}
+use Rattle.prog_data.specs.declared.refusals.RefusalKind.TheVariants as kind
+use Rattle.ciao_top.specs.declared.stops.FileFault.TheVariants as fault
+use Rattle.ciao_top.specs.FileFaults.{file_fault_of}
 use Rattle.ciao_top.specs.UnitSteps.{wants_memory}
 use Rattle.ciao_top.proofs.UnitLaws.{one_reading, all_built, one_line, some_reading}
 
@@ -87,16 +92,35 @@ one_query ops made names text m n q r a b =
 
 -- faults
 
--- a fault that is not want of memory is one of the text
-pub unread_of : (bytes : Word) (before : List Word) (fault : ReadFault) → false ≡ wants_memory fault → IsFaultOf bytes before fault → IsUnread bytes before fault
-unread_of bytes before (NotUtf8 line) other a = a
-unread_of bytes before (BadToken line) other a = a
-unread_of bytes before (IntRange line) other a = a
-unread_of bytes before (Syntax line) other a = a
-unread_of bytes before (TooDeep line) other a = a
-unread_of bytes before (OpRefused line) other a = a
-unread_of bytes before (NoEnd line) other a = a
-unread_of bytes before NoMemory other a = absurd (false≢true other)
+-- a fault of the text that is told as a rule is one of the text
+pub unread_of : (bytes : Word) (before : List Word) (read : ReadFault) (line : ℕ) (rule : RefusalKind) → file_fault_of read ≡ fault.Refused line rule → IsFaultOf bytes before read → IsUnread bytes before read
+unread_of bytes before (NotUtf8 n) line rule told a = a
+unread_of bytes before (BadToken n) line rule told a = a
+unread_of bytes before (IntRange n) line rule told a = a
+unread_of bytes before (Syntax n) line rule told a = a
+unread_of bytes before (TooDeep n) line rule told a = a
+unread_of bytes before (OpRefused n) line rule told a = a
+unread_of bytes before (NoEnd n) line rule told a = a
+unread_of bytes before NoMemory line rule told a = let no : ⊥ = cc in absurd no
+
+-- want of memory is no fault of a text
+not_wanted : (bytes : Word) (before : List Word) → IsUnread bytes before NoMemory → ⊥
+not_wanted bytes before (of_tokens (text.NotUtf8 line) has is) = let no : ⊥ = cc in no
+not_wanted bytes before (of_tokens (text.BadToken line) has is) = let no : ⊥ = cc in no
+not_wanted bytes before (of_tokens (text.IntRange line) has is) = let no : ⊥ = cc in no
+not_wanted bytes before (of_tokens text.NoMemory has is) = has
+not_wanted bytes before (of_sentences after tokens has fault) = fault.fails.wrong
+
+-- a fault of the text is told as a rule
+pub told_fault : (bytes : Word) (before : List Word) (read : ReadFault) → IsUnread bytes before read → (line : ℕ) × (rule : RefusalKind) × (file_fault_of read ≡ fault.Refused line rule)
+told_fault bytes before (NotUtf8 n) a = (n, kind.NotUtf8, refl)
+told_fault bytes before (BadToken n) a = (n, kind.BadToken, refl)
+told_fault bytes before (IntRange n) a = (n, kind.IntRange, refl)
+told_fault bytes before (Syntax n) a = (n, kind.Syntax, refl)
+told_fault bytes before (TooDeep n) a = (n, kind.TooDeep, refl)
+told_fault bytes before (OpRefused n) a = (n, kind.OpRefused, refl)
+told_fault bytes before (NoEnd n) a = (n, kind.NoEnd, refl)
+told_fault bytes before NoMemory a = absurd (not_wanted bytes before a)
 
 -- and so for a goal
 no_goal_of : (ops : Operators) (bytes : Word) (before : List Word) (fault : ReadFault) → false ≡ wants_memory fault → IsGoalFaultOf ops bytes before fault → IsNoGoal ops bytes before fault

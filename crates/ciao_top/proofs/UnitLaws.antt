@@ -8,7 +8,10 @@ use Rattle.ciao_top.specs.SentenceTerms.{IsModule, NamesModule}
 use Rattle.ciao_top.specs.declared.units.keys.Key.{Key}
 use Rattle.ciao_top.specs.declared.units.sentences.ReadSentence.{ReadSentence}
 use Rattle.ciao_top.specs.Units.{IsRead, AreRead, NotBuiltAt, no_sentence, no_directive, other_directive, other_sentence}
-use Rattle.ciao_top.specs.UnitSteps.{StopsAt}
+use Rattle.ciao_top.specs.declared.stops.FileFault.{FileFault}
+use Rattle.ciao_top.specs.declared.stops.FileFault.TheVariants.{Refused, NoMemory}
+use Rattle.prog_data.specs.declared.refusals.RefusalKind.TheVariants as kind
+use Rattle.ciao_top.specs.UnitSteps.{StopsAt, Faults, NotBuiltIn}
 use Rattle.ciao_top.proofs.Partners.{partners_push, partner_behind, one_partners, one_unpartnered}
 use Rattle.ciao_top.proofs.ReadingLaws.{one_read}
 use Rattle.ciao_top.proofs.SentenceLaws.{one_exports, module_is_named}
@@ -108,3 +111,13 @@ module _ (names : List Word) (base : Word) where
       subst (λ ss. NotBuiltAt names base (first ∷ ss) line) (sym a.whole)
       (subst (NotBuiltAt names base (first ∷ (a.before ++ (a.sentence ∷ a.behind)))) (sym a.line_is)
       (other_sentence first exports a.before a.read a.sentence a.behind is a.each a.unread))
+
+  -- so is what is told of it
+  pub stops_fault : (first : Sentence) (rest : List Sentence) (exports : List Key) (fault : FileFault) → IsModule names base first.term exports → Faults (NotBuiltIn (StopsAt names rest)) fault
+      → Faults (NotBuiltIn (NotBuiltAt names base (first ∷ rest))) fault
+  stops_fault first rest exports (Refused line rule) is a = (stops_behind first rest exports line is a.0, a.1)
+  stops_fault first rest exports NoMemory is a = tt
+
+-- a line that is not built yet is told
+pub not_built_at : (is_line : ℕ → Type 0) (line : ℕ) (fault : FileFault) → fault ≡ Refused line kind.NotBuilt → is_line line → Faults (NotBuiltIn is_line) fault
+not_built_at is_line line fault is p = subst (Faults (NotBuiltIn is_line)) (sym is) (p, refl)

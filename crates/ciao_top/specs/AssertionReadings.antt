@@ -4,32 +4,22 @@ use Rattle.std.specs.Prelude.{◌≡◌, ℕ, Bool, true, false, ◌&&◌, ◌==
 use Rattle.std.specs.List.{AllZip}
 use Rattle.term_core.specs.declared.terms.Term.{Term, out-Term}
 use Rattle.term_core.specs.declared.terms.Term as term
-use Rattle.term_core.specs.declared.terms.Term.TheOpen.{Term-F, Node}
+use Rattle.term_core.specs.declared.fixed.TheConstants.{PRED, IMPLIES, COLON}
+use Rattle.term_core.specs.Shapes.{with_mark, parts_of}
 use Rattle.prog_data.specs.declared.conditions.Prop.{Prop}
-use Rattle.prog_data.specs.Goals.{parts_of}
 use Rattle.ciao_top.specs.declared.units.assertions.ReadAssertion.{ReadAssertion}
 use Rattle.ciao_top.specs.Keys.{key_of}
 use Rattle.ciao_top.specs.UserPredicates.{may_be_asserted}
 use Rattle.ciao_top.specs.Properties.{are_distinct_variables, Says}
 use Rattle.ciao_top.specs.SentenceTerms.{directive_term, conjunction_term}
 
--- whether a term is a compound of this name with one argument
-abbrev pub is_single : ℕ → Term-F Term → Bool
-is_single name (Node f (inner ∷ [])) = f == name
-is_single name other = false
-
 -- `:- pred A`
 abbrev pub asserted_term : Term → Term
-asserted_term assertion = directive_term (term.Node 19 (assertion ∷ []))
-
--- a term with a mark and a field behind it, or alone
-abbrev pub with_mark : ℕ → Term → Option Term → Term
-with_mark mark t None = t
-with_mark mark t (Some field) = term.Node mark (t ∷ field ∷ [])
+asserted_term assertion = directive_term (term.Node PRED (assertion ∷ []))
 
 -- `A : C => C`, each field with its mark or absent
 abbrev pub with_fields : Term → Option Term → Option Term → Term
-with_fields head pre post = with_mark 28 (with_mark 46 head pre) post
+with_fields head pre post = with_mark IMPLIES (with_mark COLON head pre) post
 
 -- whether a term may be the head of an assertion
 abbrev pub is_asserted_head : Term → Bool

@@ -1,5 +1,6 @@
 pub mod Words
 pub mod Lines
+pub mod FileFaults
 pub mod Keys
 pub mod UserPredicates
 pub mod Properties

@@ -1,5 +1,5 @@
 -- The program of one file.
-use Rattle.std.specs.Prelude.{ℕ, min, Bool, false, not, List, [], ◌∷◌, ◌++◌, map, filter, Option, Some, None, if◌then◌else◌}
+use Rattle.std.specs.Prelude.{◌≡◌, ℕ, min, Bool, false, not, List, [], ◌∷◌, ◌++◌, map, filter, Option, Some, None, if◌then◌else◌}
 use Rattle.std.specs.Option.{option_map_or}
 use Rattle.std.specs.List.{list_any, position_or_len}
 use Rattle.term_core.specs.Standard.{standard}
@@ -10,6 +10,8 @@ use Rattle.prog_data.specs.declared.goals.Goal as goal
 use Rattle.prog_data.specs.declared.programs.Clause.{Clause}
 use Rattle.prog_data.specs.declared.programs.Pred.{Pred}
 use Rattle.prog_data.specs.declared.programs.Program.{Program}
+use Rattle.prog_data.specs.declared.refusals.RefusalKind.{RefusalKind}
+use Rattle.prog_data.specs.declared.refusals.RefusalKind.TheVariants as kind
 use Rattle.prog_data.specs.Goals.{parts_of}
 use Rattle.prog_data.specs.BasicNames.{basic_grammar}
 use Rattle.prog_data.specs.declared.conditions.Cond.{Cond}
@@ -19,8 +21,6 @@ use Rattle.ciao_top.specs.declared.units.assertions.ReadAssertion.{ReadAssertion
 use Rattle.ciao_top.specs.declared.units.sentences.Unit.{Unit}
 use Rattle.ciao_top.specs.declared.units.sentences.ReadSentence.{ReadSentence}
 use Rattle.ciao_top.specs.declared.units.sentences.ReadSentence.TheVariants as read
-use Rattle.ciao_top.specs.declared.units.sentences.LinkResult.{LinkResult}
-use Rattle.ciao_top.specs.declared.units.sentences.LinkResult.TheVariants as link
 use Rattle.ciao_top.specs.declared.units.clauses.Body.{Body}
 use Rattle.ciao_top.specs.declared.units.clauses.Body.TheOpen.{Body-F, One, Both}
 use Rattle.ciao_top.specs.declared.units.clauses.Body.TheFolds.{fold-Body}
@@ -153,11 +153,6 @@ abbrev pub least : List ℕ → Option ℕ
 least [] = None
 least (n ∷ ns) = Some (option_map_or (min n) (least ns) n)
 
--- the unit by its predicates
-abbrev pub linked_by : Option ℕ → Unit → LinkResult
-linked_by (Some line) m = link.Undefined line
-linked_by None m = link.Program (program_of m) m.ops
-
--- its program with its operators, or the least line that names a predicate without clauses
-abbrev pub linked : Unit → LinkResult
-linked m = linked_by (least (undefined_lines m)) m
+-- it is refused in the least of these lines
+abbrev pub NamesUndefined : Unit → ℕ → RefusalKind → Type 0
+NamesUndefined m line rule = (least (undefined_lines m) ≡ Some line) × (rule ≡ kind.Undefined)

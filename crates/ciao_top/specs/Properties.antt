@@ -4,6 +4,7 @@ use Rattle.std.specs.List.{list_any}
 use Rattle.term_core.specs.declared.terms.Term.{Term, out-Term}
 use Rattle.term_core.specs.declared.terms.Term.TheOpen.{Term-F, Var, Node}
 use Rattle.term_core.specs.Terms.{is_variable}
+use Rattle.term_core.specs.declared.fixed.TheConstants.{TERM, LIST, VAR, NONVAR, GROUND}
 use Rattle.prog_data.specs.declared.conditions.Prop.{Prop}
 use Rattle.prog_data.specs.declared.conditions.Prop.TheVariants.{Belongs, IsVar, IsNonvar, IsGround}
 
@@ -25,10 +26,10 @@ argument_of arguments t = position (λ u. is_same_variable (out-Term t) (out-Ter
 -- what a basic property of one argument asks of an argument: the names from `term` to `list` are the types of the basic grammar in its order, and behind them stand `var`, `nonvar` and `ground`
 abbrev pub asked_by : ℕ → ℕ → Option Prop
 asked_by n argument =
-    if nat_le 62 n && nat_le n 71 then Some (Belongs argument (n - 62))
-    else (if n == 72 then Some (IsVar argument)
-    else (if n == 73 then Some (IsNonvar argument)
-    else (if n == 74 then Some (IsGround argument)
+    if nat_le TERM n && nat_le n LIST then Some (Belongs argument (n - TERM))
+    else (if n == VAR then Some (IsVar argument)
+    else (if n == NONVAR then Some (IsNonvar argument)
+    else (if n == GROUND then Some (IsGround argument)
     else None)))
 
 -- the property of the arguments of a head that `N(V)` is, with N basic and V one of them

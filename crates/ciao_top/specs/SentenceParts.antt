@@ -5,20 +5,11 @@ use Rattle.term_core.specs.declared.terms.Term.{Term, out-Term}
 use Rattle.term_core.specs.declared.terms.Term.TheOpen.{Term-F, Int, Atom, Node}
 use Rattle.term_core.specs.declared.terms.Term as term
 use Rattle.term_core.specs.declared.fixed.TheConstants.{NIL, NECK}
+use Rattle.term_core.specs.Shapes.{is_compound}
 use Rattle.ciao_reader.specs.Readings.{list_term}
 use Rattle.ciao_top.specs.Words.{Word}
 use Rattle.ciao_top.specs.declared.units.keys.Key.{Key}
 use Rattle.ciao_top.specs.SentenceTerms.{export_term, IsModuleName}
-
--- whether a term is a compound of this name with two arguments
-abbrev pub is_pair : ℕ → Term-F Term → Bool
-is_pair name (Node f (left ∷ right ∷ [])) = f == name
-is_pair name other = false
-
--- whether it is a compound
-abbrev pub is_compound : Term-F Term → Bool
-is_compound (Node f parts) = true
-is_compound other = false
 
 -- whether it is `:- D` with a compound D
 abbrev pub is_directive : Term-F Term → Bool

@@ -6,8 +6,8 @@ use Rattle.term_core.specs.declared.terms.Term as term
 use Rattle.ciao_top.specs.declared.units.clauses.Body.{Body}
 use Rattle.ciao_top.specs.declared.units.clauses.Body.TheOpen.{Body-F, One, Both}
 use Rattle.ciao_top.specs.declared.units.clauses.Body.TheFolds.{fold-Body}
-use Rattle.term_core.specs.declared.fixed.TheConstants.{NIL, COMMA, NECK}
-use Rattle.prog_data.specs.Goals.{parts_of}
+use Rattle.term_core.specs.declared.fixed.TheConstants.{NIL, COMMA, NECK, PRED, IMPLIES, COLON, SLASH}
+use Rattle.term_core.specs.Shapes.{parts_of}
 use Rattle.ciao_reader.specs.declared.sentences.Sentence.{Sentence}
 use Rattle.ciao_reader.specs.Readings.{list_term}
 use Rattle.ciao_top.specs.Words.{Word}
@@ -24,9 +24,9 @@ directive_term directive = term.Node NECK (directive ∷ [])
 
 -- the module directive
 
--- F/N; the slash is 50 among the names
+-- F/N
 abbrev pub export_term : Key → Term
-export_term key = term.Node 50 (term.Atom key.name ∷ term.Int (pos key.arity) ∷ [])
+export_term key = term.Node SLASH (term.Atom key.name ∷ term.Int (pos key.arity) ∷ [])
 
 -- `module(M,[F/N,..,F/N])`, by the name `module`
 abbrev pub module_term : ℕ → Term → List Key → Term
@@ -103,7 +103,7 @@ pub record IsClause (sentence : Sentence) (clause : ReadClause) : Type 0 where
   pub line_is : clause.line ≡ sentence.line
   pub variables_are : clause.variables ≡ sentence.vars
 
--- assertions; among the names `pred` is 19, `=>` is 28 and `:` is 46
+-- assertions
 
 -- terms joined by commas
 abbrev pub conjunction_term : Term → List Term → Term
@@ -117,7 +117,7 @@ with_field mark t (property ∷ rest) = term.Node mark (t ∷ conjunction_term p
 
 -- `:- pred A : C => C`
 abbrev pub assertion_term : Term → List Term → List Term → Term
-assertion_term head pre post = directive_term (term.Node 19 (with_field 28 (with_field 46 head pre) post ∷ []))
+assertion_term head pre post = directive_term (term.Node PRED (with_field IMPLIES (with_field COLON head pre) post ∷ []))
 
 -- the sentence is read as this assertion
 pub record IsAssertion (sentence : Sentence) (assertion : ReadAssertion) : Type 0 where

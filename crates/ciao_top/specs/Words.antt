@@ -1,6 +1,6 @@
 -- The words of the command line that are accepted: `run FILE QUERY --steps N`, just these five in this order.
-use Rattle.std.specs.Prelude.{ℕ, ◌+◌, ◌-◌, ◌*◌, ◌^◌, Bool, false, ◌&&◌, ◌||◌, nat_le, ◌==◌, List, [], ◌∷◌, length, take, drop, slice_index_or, Option, Some, None, option_map, if◌then◌else◌, bytes_eq, codes}
-use Rattle.std.specs.List.{list_all}
+use Rattle.std.specs.Prelude.{ℕ, ◌+◌, ◌-◌, ◌*◌, ◌^◌, Bool, ◌&&◌, nat_le, ◌==◌, List, [], ◌∷◌, length, take, drop, slice_index_or, Option, Some, None, option_map, if◌then◌else◌, bytes_eq, codes}
+use Rattle.term_core.specs.Characters.{is_lower_word}
 
 -- a word is its bytes
 abbrev pub Word : Type 0
@@ -23,23 +23,6 @@ number_of most word = if length word == 0 then None else number_behind most 0 wo
 
 -- main files
 
--- a lower-case letter
-abbrev pub is_lower : ℕ → Bool
-is_lower c = nat_le 97 c && nat_le c 122
-
--- an upper-case letter
-abbrev pub is_upper : ℕ → Bool
-is_upper c = nat_le 65 c && nat_le c 90
-
--- a letter, a digit or `_`
-abbrev pub is_name_byte : ℕ → Bool
-is_name_byte c = is_lower c || (is_upper c || (is_digit c || c == 95))
-
--- a lower-case letter, then letters, digits and `_`
-abbrev pub is_base_name : Word → Bool
-is_base_name [] = false
-is_base_name (c ∷ cs) = is_lower c && list_all is_name_byte cs
-
 -- what stands behind the last `/`, or the first text where there is none
 abbrev pub behind_last_slash : Word → Word → Word
 behind_last_slash so_far [] = so_far
@@ -49,9 +32,9 @@ behind_last_slash so_far (c ∷ cs) = if c == 47 then behind_last_slash cs cs el
 abbrev pub shown : Word → Word
 shown file = behind_last_slash file file
 
--- a base name and `.pl`
+-- a base name, which is a lower-case letter and then letters, digits and `_`, and `.pl`
 abbrev pub is_module_file : Word → Bool
-is_module_file name = is_base_name (take (length name - 3) name) && bytes_eq (drop (length name - 3) name) (codes ".pl")
+is_module_file name = is_lower_word (take (length name - 3) name) && bytes_eq (drop (length name - 3) name) (codes ".pl")
 
 -- a path whose last part is a base name and `.pl`
 abbrev pub is_main_file : Word → Bool

@@ -1,7 +1,9 @@
 //! The top call: from words, files and a sink to a status.
 #![tactic(auto)]
 
+mod prepare;
 mod runs;
+mod stops;
 mod texts;
 mod tool;
 mod units;

@@ -1,18 +1,19 @@
 // The writing of a run.
 ghost use Rattle.std.specs.Prelude.{◌≡◌, ◌⊎◌, ◌≤◌, ◌^◌, true, IfErr, IfNone, IsSome, OnOk, OnErr, MatchOption};
-ghost use Rattle.byte_io.specs.Outside.{Rose, grown, GrewByPrefix};
+ghost use Rattle.byte_io.specs.Outside.{Rose};
 ghost use Rattle.prog_data.specs.Goals.{called_by};
 ghost use Rattle.sld_engine.specs.Built.{is_built};
 ghost use Rattle.sld_engine.specs.Runs.{left_of, program_of, bound_of};
 ghost use Rattle.ciao_top.specs.RunText.{event_text, ending_status};
-ghost use Rattle.ciao_top.specs.InnerAnswers.{DeviceGoesOn, Comes, HasWritten, event_status, RunTells, GoesOn, CallAnswers};
+ghost use Rattle.ciao_top.specs.Answers.{RunAnswers, output_of, with_piece};
+ghost use Rattle.ciao_top.specs.InnerAnswers.{DeviceGoesOn, Comes, GrewByFront, HasWritten, event_status, RunTells, GoesOn};
 
+use crate::prepare::Prepared;
 use crate::texts::event_text;
 use byte_io::{Sink, SinkFault, write_all};
 use prog_data::{Ending, Event, Program};
 use sld_engine::Run;
 use std::alloc::Global;
-use term_core::Term;
 
 // The status of an ending.
 fn ending_status(ending: &Ending) -> u8
@@ -36,6 +37,20 @@ fn event_status(event: &Event) -> Option<u8>
     }
 }
 
+/// Writes a text, or gives the status of a sink that refused.
+pub(crate) fn write_text<S: Sink>(out: &mut S, text: &str) -> Result<(), u8>
+    ensures ok { OnOk result (output_of (S.written out.new) (S.taken out.new) ≡ with_piece (output_of (S.written out.old) (S.taken out.old)) text.now) }
+    ensures err { OnErr result (GrewByFront (output_of (S.written out.old) (S.taken out.old)) (output_of (S.written out.new) (S.taken out.new)) text.now) }
+    ensures status { IfErr result (λ status. ((status ≡ 8) × Rose (S.faults out.old) (S.faults out.new)) ⊎ (status ≡ 9)) }
+    ensures sink { DeviceGoesOn (S.steady out.old) (S.steady out.new) (S.faults out.old) (S.faults out.new) }
+{
+    match write_all(out, text.as_bytes()) {
+        Ok(()) => Ok(()),
+        Err(SinkFault::Failed) => Err(8),
+        Err(SinkFault::NoMemory) => Err(9),
+    }
+}
+
 // Writes an event, or gives the status of a sink that refused or of want of memory.
 fn write_event<S: Sink>(
     alloc: Global,
@@ -43,18 +58,14 @@ fn write_event<S: Sink>(
     event: &Event,
     out: &mut S,
 ) -> Result<(), u8>
-    ensures ok { OnOk result (S.written out.new ≡ grown (S.written out.old) (event_text program.now event.now)) }
-    ensures err { OnErr result (GrewByPrefix (S.written out.old) (S.written out.new) (event_text program.now event.now)) }
+    ensures ok { OnOk result (output_of (S.written out.new) (S.taken out.new) ≡ with_piece (output_of (S.written out.old) (S.taken out.old)) (event_text program.now event.now)) }
+    ensures err { OnErr result (GrewByFront (output_of (S.written out.old) (S.taken out.old)) (output_of (S.written out.new) (S.taken out.new)) (event_text program.now event.now)) }
     ensures status { IfErr result (λ status. ((status ≡ 8) × Rose (S.faults out.old) (S.faults out.new)) ⊎ (status ≡ 9)) }
     ensures sink { DeviceGoesOn (S.steady out.old) (S.steady out.new) (S.faults out.old) (S.faults out.new) }
 {
     match event_text(alloc, program, event) {
         Err(_) => Err(9),
-        Ok(text) => match write_all(out, text.as_bytes()) {
-            Ok(()) => Ok(()),
-            Err(SinkFault::Failed) => Err(8),
-            Err(SinkFault::NoMemory) => Err(9),
-        },
+        Ok(text) => write_text(out, text.as_str()),
     }
 }
 
@@ -67,8 +78,8 @@ fn write_next<S: Sink>(
 ) -> Option<u8>
     requires { program_of run.old ≡ program.now }
     ensures told { MatchOption result
-        (HasWritten (RunTells program.now (bound_of run.old) (left_of run.old)) (RunTells program.now (bound_of run.old) (left_of run.new)) (S.written out.old) (S.written out.new))
-        (λ status. Comes (RunTells program.now (bound_of run.old) (left_of run.old)) (Rose (S.faults out.old) (S.faults out.new)) (S.written out.old) (S.written out.new) status) }
+        (HasWritten (RunTells program.now (bound_of run.old) (left_of run.old)) (RunTells program.now (bound_of run.old) (left_of run.new)) (output_of (S.written out.old) (S.taken out.old)) (output_of (S.written out.new) (S.taken out.new)))
+        (λ status. Comes (RunTells program.now (bound_of run.old) (left_of run.old)) (Rose (S.faults out.old) (S.faults out.new)) (output_of (S.written out.old) (S.taken out.old)) (output_of (S.written out.new) (S.taken out.new)) status) }
     ensures goes { IfNone result (GoesOn program.now (bound_of run.old) (left_of run.old) (left_of run.new)) }
     ensures sink { DeviceGoesOn (S.steady out.old) (S.steady out.new) (S.faults out.old) (S.faults out.new) }
     ensures program { program_of run.new ≡ program.now }
@@ -86,7 +97,7 @@ fn write_next<S: Sink>(
 // Writes a run to its end.
 fn write_run<S: Sink>(alloc: Global, program: &Program, run: &mut Run<'_>, out: &mut S) -> u8
     requires { program_of run.old ≡ program.now }
-    ensures comes { Comes (RunTells program.now (bound_of run.old) (left_of run.old)) (Rose (S.faults out.old) (S.faults out.new)) (S.written out.old) (S.written out.new) result }
+    ensures comes { Comes (RunTells program.now (bound_of run.old) (left_of run.old)) (Rose (S.faults out.old) (S.faults out.new)) (output_of (S.written out.old) (S.taken out.old)) (output_of (S.written out.new) (S.taken out.new)) result }
     ensures sink { DeviceGoesOn (S.steady out.old) (S.steady out.new) (S.faults out.old) (S.faults out.new) }
 {
     'events: loop {
@@ -97,20 +108,21 @@ fn write_run<S: Sink>(alloc: Global, program: &Program, run: &mut Run<'_>, out: 
     }
 }
 
-/// Writes the run of a query, which is a call of an exported predicate, and gives its status.
-pub(crate) fn answer_run<S: Sink>(
+/// Writes the run of a query, and gives its status.
+pub(crate) fn write_whole<S: Sink>(
     alloc: Global,
-    program: &Program,
-    query: &Term,
+    prepared: &Prepared,
     bound: u64,
     out: &mut S,
 ) -> u8
-    requires built { is_built program.now ≡ true }
-    requires calls { IsSome (called_by program.now query.now) }
-    ensures comes { Comes (CallAnswers program.now query.now bound) (Rose (S.faults out.old) (S.faults out.new)) (S.written out.old) (S.written out.new) result }
+    requires built { is_built prepared.now.program ≡ true }
+    requires called { IsSome (called_by prepared.now.program prepared.now.query) }
+    ensures comes { Comes (RunAnswers prepared.now.program prepared.now.query bound) (Rose (S.faults out.old) (S.faults out.new))
+        (output_of (S.written out.old) (S.taken out.old)) (output_of (S.written out.new) (S.taken out.new)) result }
     ensures sink { DeviceGoesOn (S.steady out.old) (S.steady out.new) (S.faults out.old) (S.faults out.new) }
 {
-    match Run::new(alloc, program, query, bound) {
+    let program = &prepared.program;
+    match Run::new(alloc, program, &prepared.query, bound) {
         Err(_) => 9,
         Ok(run) => {
             let mut run = run;

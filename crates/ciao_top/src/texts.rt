@@ -3,94 +3,12 @@ ghost use Rattle.std.specs.Prelude.{◌≡◌, ◌++◌, ◌∷◌, [], Option, 
 ghost use Rattle.term_core.specs.Names.{name_text};
 ghost use Rattle.term_core.specs.declared.terms.Term as term;
 ghost use Rattle.prog_data.specs.Goals.{pred_of};
-ghost use Rattle.ciao_top.specs.Lines.{fault_line, file_fault, read_fault, fault_at, fault_word};
 ghost use Rattle.ciao_top.specs.RunText.{line, quoted_text, kind_word, arithmetic_words, place_text, pred_text, violated_text, ending_text, event_text};
 
-use crate::words::behind_slash;
-use ciao_reader::ReadFault;
 use itoa::Buffer;
 use prog_data::{ArithKind, CompProp, Cond, CondKind, Ending, Event, Place, Program};
-use std::alloc::{AllocError, Global};
+use std::alloc::Global;
 use term_core::{Names, NoMemory, Term, print_term};
-
-// A line that tells a fault.
-fn fault_text(
-    alloc: Global,
-    before: &[u8],
-    file: &[u8],
-    after: &[u8],
-) -> Result<Vec<u8>, AllocError>
-    ensures { IfOk result (λ text. text.items ≡ fault_line (before.now ++ (file.now ++ after.now))) }
-{
-    let mut text = Vec::new(alloc);
-    text.extend_from_slice("fault: ".as_bytes())?;
-    text.extend_from_slice(before)?;
-    text.extend_from_slice(file)?;
-    text.extend_from_slice(after)?;
-    text.push(10)?;
-    Ok(text)
-}
-
-/// The line of a fault of a file at a line, which is 0 for a whole file.
-pub(crate) fn file_fault_text(
-    alloc: Global,
-    file: &str,
-    line: u64,
-    kind: &str,
-) -> Result<Vec<u8>, AllocError>
-    ensures { IfOk result (λ text. text.items ≡ file_fault file.now line kind.now) }
-{
-    let mut digits = Buffer::new();
-    let mut after = ":".as_bytes().to_vec(alloc)?;
-    after.extend_from_slice(digits.format(line).as_bytes())?;
-    after.push(32)?;
-    after.extend_from_slice(kind.as_bytes())?;
-    fault_text(alloc, "".as_bytes(), behind_slash(file.as_bytes()), &after)
-}
-
-/// The line of a fault of a text, 0 for want of memory.
-pub(crate) fn fault_at(fault: &ReadFault) -> u64
-    ensures { result ≡ fault_at fault.now }
-{
-    match fault {
-        ReadFault::NotUtf8(line)
-        | ReadFault::BadToken(line)
-        | ReadFault::IntRange(line)
-        | ReadFault::Syntax(line)
-        | ReadFault::TooDeep(line)
-        | ReadFault::OpRefused(line)
-        | ReadFault::NoEnd(line) => *line,
-        ReadFault::NoMemory => 0,
-    }
-}
-
-/// The word of a fault of a text, none for want of memory.
-pub(crate) fn fault_word(fault: &ReadFault) -> &'static str
-    ensures { result.now ≡ fault_word fault.now }
-{
-    match fault {
-        ReadFault::NotUtf8(_) => "NotUtf8",
-        ReadFault::BadToken(_) => "BadToken",
-        ReadFault::IntRange(_) => "IntRange",
-        ReadFault::Syntax(_) => "Syntax",
-        ReadFault::TooDeep(_) => "TooDeep",
-        ReadFault::OpRefused(_) => "OpRefused",
-        ReadFault::NoEnd(_) => "NoEnd",
-        ReadFault::NoMemory => "",
-    }
-}
-
-/// The line of a file that could not be read.
-pub(crate) fn read_fault_text(alloc: Global, file: &str) -> Result<Vec<u8>, AllocError>
-    ensures { IfOk result (λ text. text.items ≡ read_fault file.now) }
-{
-    fault_text(
-        alloc,
-        "read ".as_bytes(),
-        behind_slash(file.as_bytes()),
-        "".as_bytes(),
-    )
-}
 
 // Appends the text of a name, nothing for a number that is no name's.
 fn push_name(names: &Names, name: u64, out: &mut String) -> Result<(), NoMemory>

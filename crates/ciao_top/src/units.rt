@@ -1,9 +1,10 @@
-// Files and queries: from their text to a unit, or to the line of the first sentence that is not built yet.
-ghost use Rattle.std.specs.Prelude.{◌≡◌, ◌∷◌, List, ℕ, IfOk, IfSome, IfNone, string_bytes};
+// Files and queries: from their text to a unit, or to the rule that it breaks.
+ghost use Rattle.std.specs.Prelude.{◌≡◌, ◌∷◌, List, ℕ, IfOk, IfErr, IfSome, IfNone, string_bytes};
+ghost use Rattle.std.specs.List.{AllZip};
 ghost use Rattle.term_core.specs.declared.terms.Term.{Term as TermValue};
 ghost use Rattle.term_core.specs.Lists.{IsPrefix};
-ghost use Rattle.ciao_top.specs.Units.{file_text, IsQuery};
-ghost use Rattle.ciao_top.specs.UnitSteps.{wants_memory, RestIs, SentencesGive, TextGives};
+ghost use Rattle.ciao_top.specs.Units.{file_text, IsRead, AreRead, NotBuiltAt, IsUnit, IsQuery};
+ghost use Rattle.ciao_top.specs.UnitSteps.{wants_memory, Faults, NotBuiltIn, StopsAt, BreaksRule};
 
 pub(crate) mod assertions;
 pub(crate) mod clauses;
@@ -13,28 +14,15 @@ pub(crate) mod keys;
 pub(crate) mod linking;
 pub(crate) mod sentences;
 
+use crate::stops::FileFault;
 use ciao_reader::{ReadFault, Sentence, read_goal, read_sentences};
 use directives::{names_module, read_exports};
 use keys::Key;
+use prog_data::RefusalKind;
 use sentences::{ReadSentence, Unit, read_sentence};
 use sqlite_items::Items;
 use std::alloc::Global;
 use term_core::{Names, NoMemory, OpTable, Term};
-
-/// What a file's text is: a unit, or it has no sentences by this fault, or the first sentence that is not built yet is in this line.
-#[derive(Drop)]
-pub(crate) enum UnitResult {
-    Unit(Unit),
-    Unread(ReadFault),
-    NotBuilt(u64),
-}
-
-// The sentences behind the module directive, or the line of the first that is not built yet.
-#[derive(Drop)]
-pub(crate) enum Rest {
-    Read(Items<ReadSentence>),
-    NotBuilt(u64),
-}
 
 // The module directive's line and exports, and the sentences behind it.
 #[derive(Drop)]
@@ -44,31 +32,15 @@ pub(crate) struct Parts {
     sentences: Items<ReadSentence>,
 }
 
-// All sentences, or the line of the first that is not built yet.
-#[derive(Drop)]
-pub(crate) enum Outcome {
-    Read(Parts),
-    NotBuilt(u64),
-}
-
-// Whether memory was refused.
-fn wants_memory(fault: &ReadFault) -> bool
-    ensures { result ≡ wants_memory fault.now }
+// What is in this line is not built yet.
+fn not_built(line: u64) -> FileFault
+    ensures { result ≡ FileFault.Refused line RefusalKind.NotBuilt }
 {
-    match fault {
-        ReadFault::NoMemory => true,
-        ReadFault::NotUtf8(_)
-        | ReadFault::BadToken(_)
-        | ReadFault::IntRange(_)
-        | ReadFault::Syntax(_)
-        | ReadFault::TooDeep(_)
-        | ReadFault::OpRefused(_)
-        | ReadFault::NoEnd(_) => false,
-    }
+    FileFault::Refused(line, RefusalKind::NotBuilt)
 }
 
-// The file as it is printed.
-fn file_text(alloc: Global, base: &str) -> Result<String, NoMemory>
+// A base name as the file is printed.
+pub(crate) fn file_text(alloc: Global, base: &str) -> Result<String, NoMemory>
     ensures { IfOk result (λ text. string_bytes text ≡ file_text base.now) }
 {
     let mut text = String::from_str(alloc, base)?;
@@ -77,17 +49,22 @@ fn file_text(alloc: Global, base: &str) -> Result<String, NoMemory>
 }
 
 // What sentences behind the module directive are read as.
-fn read_rest(alloc: Global, names: &Names, sentences: &[Sentence]) -> Result<Rest, NoMemory>
-    ensures { IfOk result (λ rest. RestIs names.now sentences.now rest) }
+fn read_rest(
+    alloc: Global,
+    names: &Names,
+    sentences: &[Sentence],
+) -> Result<Items<ReadSentence>, FileFault>
+    ensures ok { IfOk result (λ all. AllZip (IsRead names.now) sentences.now all) }
+    ensures err { IfErr result (Faults (NotBuiltIn (StopsAt names.now sentences.now))) }
 {
     let mut all = Items::new(alloc);
     for sentence in sentences {
         match read_sentence(alloc, names, sentence)? {
-            None => return Ok(Rest::NotBuilt(sentence.line)),
+            None => return Err(not_built(sentence.line)),
             Some(read) => all.push(read)?,
         }
     }
-    Ok(Rest::Read(all))
+    Ok(all)
 }
 
 // The parts of the module directive and the sentences behind it.
@@ -97,22 +74,20 @@ fn read_parts(
     base: &str,
     first: &Sentence,
     rest: &[Sentence],
-) -> Result<Outcome, NoMemory>
-    ensures { IfOk result (λ outcome. SentencesGive names.now base.now (first.now ∷ rest.now) outcome) }
+) -> Result<Parts, FileFault>
+    ensures ok { IfOk result (λ parts. AreRead names.now base.now (first.now ∷ rest.now) parts.line parts.exports parts.sentences) }
+    ensures err { IfErr result (Faults (NotBuiltIn (NotBuiltAt names.now base.now (first.now ∷ rest.now)))) }
 {
     if !names_module(names, &first.term) {
-        return Ok(Outcome::NotBuilt(1));
+        return Err(not_built(1));
     }
     match read_exports(alloc, names, base, &first.term)? {
-        None => Ok(Outcome::NotBuilt(first.line)),
-        Some(exports) => match read_rest(alloc, names, rest)? {
-            Rest::NotBuilt(line) => Ok(Outcome::NotBuilt(line)),
-            Rest::Read(sentences) => Ok(Outcome::Read(Parts {
-                line: first.line,
-                exports,
-                sentences,
-            })),
-        },
+        None => Err(not_built(first.line)),
+        Some(exports) => Ok(Parts {
+            line: first.line,
+            exports,
+            sentences: read_rest(alloc, names, rest)?,
+        }),
     }
 }
 
@@ -122,47 +97,46 @@ fn read_all(
     names: &Names,
     base: &str,
     sentences: &[Sentence],
-) -> Result<Outcome, NoMemory>
-    ensures { IfOk result (λ outcome. SentencesGive names.now base.now sentences.now outcome) }
+) -> Result<Parts, FileFault>
+    ensures ok { IfOk result (λ parts. AreRead names.now base.now sentences.now parts.line parts.exports parts.sentences) }
+    ensures err { IfErr result (Faults (NotBuiltIn (NotBuiltAt names.now base.now sentences.now))) }
 {
     match sentences {
-        [] => Ok(Outcome::NotBuilt(1)),
+        [] => Err(not_built(1)),
         [first, rest @ ..] => read_parts(alloc, names, base, first, rest),
     }
 }
 
-/// What a file with this base name is, which has at most 1,048,576 bytes.
+/// The unit that a file with this base name is, which has at most 1,048,576 bytes.
 ///
 /// # Errors
-/// Want of memory.
-pub(crate) fn read_unit(alloc: Global, base: &str, bytes: &[u8]) -> Result<UnitResult, NoMemory>
-    ensures { IfOk result (λ answer. TextGives base.now bytes.now answer) }
+/// The rule that it breaks, or want of memory.
+pub(crate) fn read_unit(alloc: Global, base: &str, bytes: &[u8]) -> Result<Unit, FileFault>
+    ensures ok { IfOk result (λ unit. IsUnit base.now bytes.now unit) }
+    ensures err { IfErr result (Faults (BreaksRule base.now bytes.now)) }
 {
     let mut names = Names::new(alloc)?;
     let name = names.intern(base)?;
     let text = file_text(alloc, base)?;
     let file = names.intern(text.as_str())?;
-    match read_sentences(alloc, &mut names, bytes) {
-        Err(fault) => {
-            if wants_memory(&fault) {
-                Err(NoMemory)
-            } else {
-                Ok(UnitResult::Unread(fault))
-            }
-        }
-        Ok(source) => match read_all(alloc, &names, base, source.sentences.as_slice())? {
-            Outcome::NotBuilt(line) => Ok(UnitResult::NotBuilt(line)),
-            Outcome::Read(parts) => Ok(UnitResult::Unit(Unit {
-                names,
-                file,
-                name,
-                line: parts.line,
-                exports: parts.exports,
-                sentences: parts.sentences,
-                ops: source.ops,
-            })),
-        },
-    }
+    let source = read_sentences(alloc, &mut names, bytes)?;
+    let parts = read_all(alloc, &names, base, source.sentences.as_slice())?;
+    Ok(Unit {
+        names,
+        file,
+        name,
+        line: parts.line,
+        exports: parts.exports,
+        sentences: parts.sentences,
+        ops: source.ops,
+    })
+}
+
+// Whether memory was refused.
+fn wants_memory(fault: &ReadFault) -> bool
+    ensures { result ≡ wants_memory fault.now }
+{
+    matches!(fault, ReadFault::NoMemory)
 }
 
 /// The query that the text is by these operators, or `None` where it is none. Its new names are added.

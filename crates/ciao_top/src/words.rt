@@ -1,8 +1,9 @@
 // The words of the command line that are accepted.
 ghost use Rattle.std.specs.Prelude.{◌≡◌, ℕ, ◌+◌, ◌*◌, ◌≤◌, ◌<◌, Bool, true, List, map, length, Option, option_map, string_bytes, None, IfSome, IfNone, IsNone};
-ghost use Rattle.std.specs.List.{list_all};
-ghost use Rattle.ciao_top.specs.Words.{number_of, number_behind, is_digit, is_lower, is_name_byte, is_base_name, is_module_file, is_main_file, shown, AcceptedWords, base_of, has_run_shape};
+ghost use Rattle.ciao_top.specs.Words.{number_of, number_behind, is_digit, is_main_file, shown, AcceptedWords, base_of, has_run_shape};
 ghost use Rattle.ciao_top.specs.InnerAnswers.{run_words};
+
+use term_core::is_lower_word;
 
 /// A run of a query of a file, with the greatest number of calls.
 #[derive(Clone, Copy, Drop)]
@@ -14,22 +15,10 @@ pub(crate) struct RunCommand<'a> {
 
 const MOST_STEPS: u64 = 9_223_372_036_854_775_807;
 
-pub(crate) fn is_digit(byte: u8) -> bool
+fn is_digit(byte: u8) -> bool
     ensures { result ≡ is_digit byte }
 {
     48 <= byte && byte <= 57
-}
-
-pub(crate) fn is_lower(byte: u8) -> bool
-    ensures { result ≡ is_lower byte }
-{
-    97 <= byte && byte <= 122
-}
-
-pub(crate) fn is_name_byte(byte: u8) -> bool
-    ensures { result ≡ is_name_byte byte }
-{
-    is_lower(byte) || (65 <= byte && byte <= 90) || is_digit(byte) || byte == 95
 }
 
 // The value with one more digit, where it is at most `most`.
@@ -47,8 +36,8 @@ fn value_with(value: u64, digit: u8, most: u64) -> Option<u64>
     }
 }
 
-/// The number that the word is, if it is one of at most `most`.
-pub(crate) fn number(word: &[u8], most: u64) -> Option<u64>
+// The number that the word is, if it is one of at most `most`.
+fn number(word: &[u8], most: u64) -> Option<u64>
     ensures { result ≡ number_of most word.now }
 {
     if word.is_empty() {
@@ -67,8 +56,8 @@ pub(crate) fn number(word: &[u8], most: u64) -> Option<u64>
     Some(value)
 }
 
-/// What stands behind the last slash.
-pub(crate) fn behind_slash(file: &[u8]) -> &[u8]
+// What stands behind the last slash.
+fn behind_slash(file: &[u8]) -> &[u8]
     ensures { result.now ≡ shown file.now }
 {
     let mut start = 0;
@@ -80,32 +69,12 @@ pub(crate) fn behind_slash(file: &[u8]) -> &[u8]
     &file[start..]
 }
 
-fn are_name_bytes(bytes: &[u8]) -> bool
-    ensures { result ≡ list_all is_name_byte bytes.now }
-{
-    for byte in bytes {
-        if !is_name_byte(*byte) {
-            return false;
-        }
-    }
-    true
-}
-
-fn is_base_name(name: &[u8]) -> bool
-    ensures { result ≡ is_base_name name.now }
-{
-    match name.split_first() {
-        None => false,
-        Some((first, rest)) => is_lower(*first) && are_name_bytes(rest),
-    }
-}
-
 fn is_main_file(file: &[u8]) -> bool
     ensures { result ≡ is_main_file file.now }
 {
     let name = behind_slash(file);
     let end = name.len().saturating_sub(3);
-    is_base_name(&name[..end]) && &name[end..] == ".pl".as_bytes()
+    is_lower_word(&name[..end]) && &name[end..] == ".pl".as_bytes()
 }
 
 /// The base name of a main file.

@@ -22,7 +22,7 @@ use Rattle.machine_model.specs.State.{Trace, Going, Over}
 use Rattle.machine_model.specs.Tests.{Tests, every_condition, kept_checks, told}
 use Rattle.machine_model.specs.Run.{steps, start_of}
 use Rattle.machine_model.specs.Instrumented.{instrumented}
-use Rattle.term_core.specs.Names.{plus, quotient, remainder, modulo}
+use Rattle.term_core.specs.declared.fixed.TheConstants.{PLUS, QUOTIENT, REMAINDER, MODULO}
 use Rattle.machine_model.proofs.Samples.{p, q, f, a, b, number, negative, X, Y, at, two_entries, promised, promised_once, counted, twice, cycle, cycle_or_clash, evaluated, least, one_answer, never_fails, exits_once, control, once, negated, broken_twice}
 use denote.Hole.Carrier
 
@@ -98,12 +98,12 @@ unfolding term_block.hidden-the_row-Term-0 term_block.shape-the_row-Term-0 term_
 clash_first = rw (terms.all_folds, terms_wait) (rw (goals.all_folds, goals_wait) (rw (terms.all_folds, terms_wait) (rw (goals.all_folds, goals_wait) (refl))))
 
 -- a sum of more than 64 bits
-pub overflow : Computes 2 (run (evaluated plus (number 9223372036854775807) (number 1)) 0 (one p X)) (ends [] 0 (Arithmetic Overflow (at 2)))
+pub overflow : Computes 2 (run (evaluated PLUS (number 9223372036854775807) (number 1)) 0 (one p X)) (ends [] 0 (Arithmetic Overflow (at 2)))
 unfolding term_block.hidden-the_row-Term-0 term_block.shape-the_row-Term-0 term_block.shown-the_row-Term-0 out-Term goal_block.hidden-the_row-Goal-0 goal_block.shape-the_row-Goal-0 goal_block.shown-the_row-Goal-0 out-Goal Carrier.hidden Carrier.shown Carrier.out
 overflow = rw (terms.all_folds, terms_wait) (rw (goals.all_folds, goals_wait) (rw (terms.all_folds, terms_wait) (rw (goals.all_folds, goals_wait) (refl))))
 
 -- `-7 // 2`, `-7 rem 2`, `-7 mod 2` and `7 mod -2`
-pub signs : map value (Node quotient (negative 6 ∷ number 2 ∷ []) ∷ Node remainder (negative 6 ∷ number 2 ∷ []) ∷ Node modulo (negative 6 ∷ number 2 ∷ []) ∷ Node modulo (number 7 ∷ negative 1 ∷ []) ∷ []) ≡ map Ok (negsuc 2 ∷ negsuc 0 ∷ pos 1 ∷ negsuc 0 ∷ [])
+pub signs : map value (Node QUOTIENT (negative 6 ∷ number 2 ∷ []) ∷ Node REMAINDER (negative 6 ∷ number 2 ∷ []) ∷ Node MODULO (negative 6 ∷ number 2 ∷ []) ∷ Node MODULO (number 7 ∷ negative 1 ∷ []) ∷ []) ≡ map Ok (negsuc 2 ∷ negsuc 0 ∷ pos 1 ∷ negsuc 0 ∷ [])
 unfolding term_block.hidden-the_row-Term-0 term_block.shape-the_row-Term-0 term_block.shown-the_row-Term-0 out-Term goal_block.hidden-the_row-Goal-0 goal_block.shape-the_row-Goal-0 goal_block.shown-the_row-Goal-0 out-Goal Carrier.hidden Carrier.shown Carrier.out
 signs = rw terms.all_folds refl
 

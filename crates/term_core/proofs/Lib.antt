@@ -3,7 +3,7 @@ pub mod Counting
 mod FixedNames
 pub mod KindLaws
 pub mod NameLaws
-pub mod Occurrences
+mod Occurrences
 mod OperatorChanges
 mod OperatorLists
 pub mod OperatorTables

@@ -4,33 +4,22 @@ ghost use Rattle.std.specs.List.{list_any, position_or_len};
 ghost use Rattle.term_core.specs.declared.terms.Term.{out-Term};
 ghost use Rattle.term_core.specs.Terms.{is_variable};
 ghost use Rattle.prog_data.specs.declared.conditions.Prop.{Prop as PropValue};
-ghost use Rattle.prog_data.specs.Goals.{parts_of};
+ghost use Rattle.term_core.specs.Shapes.{parts_of};
 ghost use Rattle.ciao_top.specs.declared.units.assertions.ReadAssertion.{ReadAssertion as ReadAssertionValue};
 ghost use Rattle.ciao_top.specs.UserPredicates.{is_field_name, may_be_asserted};
 ghost use Rattle.ciao_top.specs.Properties.{is_same_variable, are_distinct_variables, argument_of, asked_by, property_at};
 ghost use Rattle.ciao_top.specs.SentenceTerms.{IsAssertion};
-ghost use Rattle.ciao_top.specs.AssertionReadings.{is_single, asserted_term, is_asserted_head, SaysAll, FieldsSay, SaysAssertion};
+ghost use Rattle.ciao_top.specs.AssertionReadings.{asserted_term, is_asserted_head, SaysAll, FieldsSay, SaysAssertion};
 
-use crate::units::clauses::{names_user_pred, operands, sides};
+use crate::units::clauses::names_user_pred;
 use crate::units::keys::{Key, key_of};
 use ciao_reader::Sentence;
 use prog_data::Prop;
 use sqlite_items::Items;
 use std::alloc::Global;
-use term_core::{NoMemory, Term};
-
-// The numbers of `:-`, `pred`, `#`, `=>`, `:` and `+` among the names.
-const NECK: u64 = 15;
-
-const PRED: u64 = 19;
-
-const HASH: u64 = 27;
-
-const IMPLIES: u64 = 28;
-
-const COLON: u64 = 46;
-
-const PLUS: u64 = 47;
+use term_core::{
+    COLON, COMMA, GROUND, HASH, IMPLIES, LIST, NECK, NONVAR, NoMemory, PLUS, PRED, TERM, Term, VAR,
+};
 
 /// An assertion that was read, with its line: the predicate, the properties that a call has to have, and those that hold when it succeeds. Properties that are not written are none.
 #[derive(Drop)]
@@ -41,27 +30,11 @@ pub(crate) struct ReadAssertion {
     pub(crate) line: u64,
 }
 
-// The argument of a compound with this name and one argument.
-fn inside(term: &Term, name: u64) -> Option<&Term>
-    ensures { MatchOption result (is_single name (out-Term term.now) ≡ false) (λ inner. term.now ≡ Term.Node name (inner.now ∷ [])) }
-{
-    match term {
-        Term::Var(_) | Term::Int(_) | Term::Atom(_) => None,
-        Term::Node(found, parts) => match parts.as_slice() {
-            [inner] => { if *found == name { Some(inner) } else { None } }
-            _ => None,
-        },
-    }
-}
-
 // What stands behind `:- pred`.
 fn asserted(term: &Term) -> Option<&Term>
     ensures { MatchOption result ((assertion : Term) → term.now ≡ asserted_term assertion → ⊥) (λ assertion. term.now ≡ asserted_term assertion.now) }
 {
-    match inside(term, NECK) {
-        None => None,
-        Some(directive) => inside(directive, PRED),
-    }
+    term.single(NECK)?.single(PRED)
 }
 
 fn is_field_name(name: u64) -> bool
@@ -80,16 +53,6 @@ fn may_be_asserted(term: &Term) -> bool
         Term::Node(name, parts) => {
             names_user_pred(term) && !(parts.len() == 2 && is_field_name(*name))
         }
-    }
-}
-
-// The arguments of a head.
-fn arguments(head: &Term) -> &[Term]
-    ensures { result.now ≡ parts_of (out-Term head.now) }
-{
-    match head {
-        Term::Var(_) | Term::Int(_) | Term::Atom(_) => &[],
-        Term::Node(_, parts) => parts.as_slice(),
     }
 }
 
@@ -129,15 +92,6 @@ fn argument_of(arguments: &[Term], term: &Term) -> Option<u64>
     }
 }
 
-fn is_variable(term: &Term) -> bool
-    ensures { result ≡ is_variable (out-Term term.now) }
-{
-    match term {
-        Term::Var(_) => true,
-        Term::Int(_) | Term::Atom(_) | Term::Node(_, _) => false,
-    }
-}
-
 // Whether a term is the same variable as one of others.
 fn is_among(term: &Term, others: &[Term]) -> bool
     ensures { result ≡ list_any (λ u. is_same_variable (out-Term term.now) (out-Term u)) others.now }
@@ -149,7 +103,7 @@ fn is_among(term: &Term, others: &[Term]) -> bool
 fn is_new_variable(term: &Term, others: &[Term]) -> bool
     ensures { result ≡ (is_variable (out-Term term.now) && not (list_any (λ u. is_same_variable (out-Term term.now) (out-Term u)) others.now)) }
 {
-    is_variable(term) && !is_among(term, others)
+    term.is_variable() && !is_among(term, others)
 }
 
 fn are_distinct_variables(terms: &[Term]) -> bool
@@ -170,10 +124,10 @@ fn asked_by(name: u64, argument: u64) -> Option<Prop>
     ensures { result ≡ asked_by name argument }
 {
     match name {
-        62..=71 => Some(Prop::Belongs(argument, name - 62)),
-        72 => Some(Prop::IsVar(argument)),
-        73 => Some(Prop::IsNonvar(argument)),
-        74 => Some(Prop::IsGround(argument)),
+        TERM..=LIST => Some(Prop::Belongs(argument, name - TERM)),
+        VAR => Some(Prop::IsVar(argument)),
+        NONVAR => Some(Prop::IsNonvar(argument)),
+        GROUND => Some(Prop::IsGround(argument)),
         _ => None,
     }
 }
@@ -212,7 +166,7 @@ fn properties_of(
 {
     let mut properties = Items::new(alloc);
     let mut left = conjunction;
-    while let Some((item, rest)) = sides(left) {
+    while let Some((item, rest)) = left.operands(COMMA) {
         match property_of(arguments, item) {
             None => return Ok(None),
             Some(property) => properties.push(property)?,
@@ -232,7 +186,7 @@ fn properties_of(
 fn is_asserted_head(head: &Term) -> bool
     ensures { result ≡ is_asserted_head head.now }
 {
-    may_be_asserted(head) && are_distinct_variables(arguments(head))
+    may_be_asserted(head) && are_distinct_variables(head.parts())
 }
 
 // The assertion about a head that has a precondition alone.
@@ -248,7 +202,7 @@ fn with_pre(
     if !is_asserted_head(head) {
         return Ok(None);
     }
-    match properties_of(alloc, arguments(head), pre)? {
+    match properties_of(alloc, head.parts(), pre)? {
         None => Ok(None),
         Some(pre) => Ok(Some(ReadAssertion {
             key: key_of(head),
@@ -272,7 +226,7 @@ fn with_post(
     if !is_asserted_head(head) {
         return Ok(None);
     }
-    match properties_of(alloc, arguments(head), post)? {
+    match properties_of(alloc, head.parts(), post)? {
         None => Ok(None),
         Some(post) => Ok(Some(ReadAssertion {
             key: key_of(head),
@@ -297,9 +251,9 @@ fn with_both(
     if !is_asserted_head(head) {
         return Ok(None);
     }
-    match properties_of(alloc, arguments(head), pre)? {
+    match properties_of(alloc, head.parts(), pre)? {
         None => Ok(None),
-        Some(pre) => match properties_of(alloc, arguments(head), post)? {
+        Some(pre) => match properties_of(alloc, head.parts(), post)? {
             None => Ok(None),
             Some(post) => Ok(Some(ReadAssertion {
                 key: key_of(head),
@@ -320,12 +274,12 @@ fn said_assertion(
     ensures some { IfOk result (λ answer. IfSome answer (SaysAssertion assertion.now line)) }
     ensures none { IfOk result (λ answer. IfNone answer ((said : ReadAssertionValue) → SaysAssertion assertion.now line said → ⊥)) }
 {
-    match operands(assertion, IMPLIES) {
-        None => match operands(assertion, COLON) {
+    match assertion.operands(IMPLIES) {
+        None => match assertion.operands(COLON) {
             None => Ok(None),
             Some((head, pre)) => with_pre(alloc, head, pre, line),
         },
-        Some((left, post)) => match operands(left, COLON) {
+        Some((left, post)) => match left.operands(COLON) {
             None => with_post(alloc, left, post, line),
             Some((head, pre)) => with_both(alloc, head, pre, post, line),
         },

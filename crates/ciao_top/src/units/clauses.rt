@@ -4,20 +4,16 @@ ghost use Rattle.std.specs.List.{list_all};
 ghost use Rattle.term_core.specs.declared.terms.Term.{out-Term};
 ghost use Rattle.ciao_top.specs.declared.units.clauses.Body.{Body as BodyValue};
 ghost use Rattle.ciao_top.specs.declared.units.clauses.ReadClause.{ReadClause as ReadClauseValue};
-ghost use Rattle.ciao_top.specs.UserPredicates.{is_control, is_built_in, is_user, names_user_pred, is_directive_or_rule, may_be_fact};
+ghost use Rattle.prog_data.specs.Control.{is_user};
+ghost use Rattle.ciao_top.specs.UserPredicates.{names_user_pred, is_directive_or_rule, may_be_fact};
 ghost use Rattle.term_core.specs.declared.fixed.TheConstants.{COMMA, NECK};
 ghost use Rattle.ciao_top.specs.SentenceTerms.{body_term, goals_of, IsClause};
-ghost use Rattle.ciao_top.specs.SentenceParts.{is_pair};
 
 use ciao_reader::Sentence;
+use prog_data::meaning_of;
 use sqlite_items::Boxed;
 use std::alloc::Global;
-use term_core::{NoMemory, Term, copy};
-
-// The numbers of the comma and of `:-` among the names.
-const COMMA: u64 = 3;
-
-const NECK: u64 = 15;
+use term_core::{COMMA, NECK, NoMemory, Term, copy};
 
 /// The body of a clause: a goal, or two bodies joined by a comma.
 #[derive(Drop)]
@@ -35,32 +31,10 @@ pub(crate) struct ReadClause {
     pub(crate) variables: u64,
 }
 
-fn is_control(name: u64, arity: usize) -> bool
-    ensures { result ≡ is_control name arity }
-{
-    match arity {
-        0 => matches!(name, 5 | 8 | 9),
-        1 => name == 29,
-        2 => matches!(name, 3 | 4 | 6 | 25),
-        _ => false,
-    }
-}
-
-fn is_built_in(name: u64, arity: usize) -> bool
-    ensures { result ≡ is_built_in name arity }
-{
-    match arity {
-        0 => name == 61,
-        1 => matches!(name, 57..=60 | 62..=74),
-        2 => matches!(name, 30..=33 | 39..=45 | 71),
-        _ => false,
-    }
-}
-
 fn is_user(name: u64, arity: usize) -> bool
     ensures { result ≡ is_user name arity }
 {
-    !(is_control(name, arity) || is_built_in(name, arity))
+    meaning_of(name, arity as u64).is_none()
 }
 
 /// Whether a term is an atom or a compound that names a predicate of the user.
@@ -90,32 +64,6 @@ fn may_be_fact(term: &Term) -> bool
     names_user_pred(term) && !is_directive_or_rule(term)
 }
 
-/// The two arguments of a compound with this name.
-pub(crate) fn operands(term: &Term, operator: u64) -> Option<(&Term, &Term)>
-    ensures { MatchOption result (is_pair operator (out-Term term.now) ≡ false) (λ pair. term.now ≡ Term.Node operator (pair.0.now ∷ pair.1.now ∷ [])) }
-{
-    match term {
-        Term::Var(_) | Term::Int(_) | Term::Atom(_) => None,
-        Term::Node(name, parts) => match parts.as_slice() {
-            [left, right] => {
-                if *name == operator {
-                    Some((left, right))
-                } else {
-                    None
-                }
-            }
-            _ => None,
-        },
-    }
-}
-
-/// The two sides of a conjunction.
-pub(crate) fn sides(term: &Term) -> Option<(&Term, &Term)>
-    ensures { MatchOption result (is_pair COMMA (out-Term term.now) ≡ false) (λ pair. term.now ≡ Term.Node COMMA (pair.0.now ∷ pair.1.now ∷ [])) }
-{
-    operands(term, COMMA)
-}
-
 fn both(alloc: Global, first: Body, second: Body) -> Result<Body, NoMemory>
     ensures { IfOk result (λ body. body ≡ Body.Both first second) }
 {
@@ -127,7 +75,7 @@ fn read_body(alloc: Global, term: &Term) -> Result<Option<Body>, NoMemory>
     ensures some { IfOk result (λ answer. IfSome answer (λ body. (body_term body ≡ term.now) × (list_all (λ goal. names_user_pred (out-Term goal)) (goals_of body) ≡ true))) }
     ensures none { IfOk result (λ answer. IfNone answer ((body : BodyValue) → body_term body ≡ term.now → list_all (λ goal. names_user_pred (out-Term goal)) (goals_of body) ≡ true → ⊥)) }
 {
-    match sides(term) {
+    match term.operands(COMMA) {
         None => {
             if names_user_pred(term) {
                 Ok(Some(Body::One(copy(alloc, term)?)))
@@ -200,7 +148,7 @@ pub(crate) fn read_clause(
     ensures some { IfOk result (λ answer. IfSome answer (λ clause. IsClause sentence.now clause)) }
     ensures none { IfOk result (λ answer. IfNone answer ((clause : ReadClauseValue) → IsClause sentence.now clause → ⊥)) }
 {
-    match operands(&sentence.term, NECK) {
+    match sentence.term.operands(NECK) {
         Some((head, body)) => rule(alloc, sentence, head, body),
         None => fact(alloc, sentence),
     }

@@ -1,26 +1,14 @@
 // The module directive, and changes of operators.
 ghost use Rattle.std.specs.Prelude.{◌≡◌, ◌↔◌, ◌∷◌, [], false, List, slice_get, Some, IsTrue, IfOk, IfSome, IfNone, MatchOption};
 ghost use Rattle.term_core.specs.declared.terms.Term.{out-Term};
-ghost use Rattle.term_core.specs.declared.fixed.TheConstants.{NIL};
-ghost use Rattle.term_core.specs.Terms.{is_atom_of};
 ghost use Rattle.ciao_top.specs.declared.units.keys.Key.{Key as KeyValue};
 ghost use Rattle.ciao_top.specs.SentenceTerms.{directive_term, export_term, IsModuleName, IsModule, NamesModule, ChangesOperators};
-ghost use Rattle.ciao_top.specs.SentenceParts.{is_compound, is_directive, export_from, ListsExports, AreModuleArguments};
+ghost use Rattle.ciao_top.specs.SentenceParts.{is_directive, export_from, ListsExports, AreModuleArguments};
 
-use crate::units::clauses::operands;
 use crate::units::keys::Key;
 use sqlite_items::Items;
 use std::alloc::Global;
-use term_core::{Names, NoMemory, Term};
-
-// The numbers of `[]`, the list cell, `:-` and the slash among the names.
-const NIL: u64 = 0;
-
-const CELL: u64 = 1;
-
-const NECK: u64 = 15;
-
-const SLASH: u64 = 50;
+use term_core::{NECK, Names, NoMemory, SLASH, Term};
 
 fn is_text(names: &Names, number: u64, text: &str) -> bool
     ensures { IsTrue result ↔ (slice_get names.now number ≡ Some text.now) }
@@ -28,33 +16,11 @@ fn is_text(names: &Names, number: u64, text: &str) -> bool
     number < names.len() && names.text(number) == text
 }
 
-// The name and the arguments of a compound.
-fn compound(term: &Term) -> Option<(u64, &[Term])>
-    ensures { MatchOption result (is_compound (out-Term term.now) ≡ false) (λ parts. term.now ≡ Term.Node parts.0 parts.1.now) }
-{
-    match term {
-        Term::Node(name, arguments) => Some((*name, arguments.as_slice())),
-        Term::Var(_) | Term::Int(_) | Term::Atom(_) => None,
-    }
-}
-
 // The name and the arguments of a directive.
 fn directive(term: &Term) -> Option<(u64, &[Term])>
     ensures { MatchOption result (is_directive (out-Term term.now) ≡ false) (λ parts. term.now ≡ directive_term (Term.Node parts.0 parts.1.now)) }
 {
-    match term {
-        Term::Node(name, parts) => match parts.as_slice() {
-            [directive] => {
-                if *name == NECK {
-                    compound(directive)
-                } else {
-                    None
-                }
-            }
-            _ => None,
-        },
-        Term::Var(_) | Term::Int(_) | Term::Atom(_) => None,
-    }
+    term.single(NECK)?.compound()
 }
 
 /// Whether a sentence is a `module` directive with two or three arguments.
@@ -116,18 +82,9 @@ fn export_from(name: &Term, arity: &Term) -> Option<Key>
 fn export_of(term: &Term) -> Option<Key>
     ensures { MatchOption result ((key : KeyValue) → term.now ≡ export_term key → ⊥) (λ key. term.now ≡ export_term key) }
 {
-    match operands(term, SLASH) {
+    match term.operands(SLASH) {
         None => None,
         Some((name, arity)) => export_from(name, arity),
-    }
-}
-
-fn is_nil(term: &Term) -> bool
-    ensures { result ≡ is_atom_of NIL (out-Term term.now) }
-{
-    match term {
-        Term::Atom(name) => *name == NIL,
-        Term::Var(_) | Term::Int(_) | Term::Node(_, _) => false,
     }
 }
 
@@ -138,14 +95,14 @@ fn exports(alloc: Global, list: &Term) -> Result<Option<Items<Key>>, NoMemory>
 {
     let mut keys = Items::new(alloc);
     let mut left = list;
-    while let Some((item, tail)) = operands(left, CELL) {
+    while let Some((item, tail)) = left.list_cell() {
         match export_of(item) {
             None => return Ok(None),
             Some(key) => keys.push(key)?,
         }
         left = tail;
     }
-    if is_nil(left) {
+    if left.is_empty_list() {
         Ok(Some(keys))
     } else {
         Ok(None)

@@ -1,22 +1,30 @@
 // The program of one file.
-ghost use Rattle.std.specs.Prelude.{◌≡◌, ℕ, true, List, not, [], ◌∷◌, ◌++◌, map, filter, IfOk, OnOk};
+ghost use Rattle.std.specs.Prelude.{◌≡◌, ℕ, true, List, not, [], ◌∷◌, ◌++◌, map, filter, None, IfOk, IfErr, OnOk};
 ghost use Rattle.std.specs.List.{list_any};
 ghost use Rattle.term_core.specs.declared.terms.Term.{out-Term};
-ghost use Rattle.term_core.specs.declared.operators.Operators.{Operators};
 ghost use Rattle.prog_data.specs.Goals.{parts_of};
 ghost use Rattle.sld_engine.specs.Built.{is_built};
 ghost use Rattle.ciao_top.specs.Keys.{key_of};
 ghost use Rattle.ciao_top.specs.SentenceTerms.{goals_of, clause_goals};
-ghost use Rattle.ciao_top.specs.Linked.{with_key, keys_with, pred_number, is_defined, call_of, goal_of, body_of, clause_of, is_clause_of, clauses_of, keys_of, unit_conditions, pred_with, program_with, program_of, names_undefined, sentence_line, undefined_lines, least, linked};
+ghost use Rattle.ciao_top.specs.Linked.{with_key, keys_with, pred_number, is_defined, call_of, goal_of, body_of, clause_of, is_clause_of, clauses_of, keys_of, unit_conditions, pred_with, program_with, program_of, names_undefined, sentence_line, undefined_lines, least, NamesUndefined};
+ghost use Rattle.ciao_top.specs.UnitSteps.{Faults};
 
+use crate::stops::FileFault;
 use crate::units::clauses::{Body, ReadClause};
 use crate::units::conditions::{conditions_from, numbers_of};
 use crate::units::keys::{Key, key_of, same_key};
-use crate::units::sentences::{LinkResult, ReadSentence, Unit};
-use prog_data::{Clause, Cond, Entry, Goal, Place, Pred, Program, basic_grammar};
+use crate::units::sentences::{ReadSentence, Unit};
+use prog_data::{Clause, Cond, Entry, Goal, Place, Pred, Program, RefusalKind, basic_grammar};
 use sqlite_items::{Boxed, Items};
 use std::alloc::Global;
 use term_core::{NoMemory, OpTable, Term, copy};
+
+/// The program of a unit, with the operators for queries.
+#[derive(Drop)]
+pub(crate) struct Linked {
+    pub(crate) program: Program,
+    pub(crate) ops: OpTable,
+}
 
 // Whether a predicate has clauses.
 fn is_defined(keys: &[Key], key: Key) -> bool
@@ -228,9 +236,11 @@ fn entries_of(alloc: Global, exported: &[u64]) -> Result<Items<Entry>, NoMemory>
     Ok(entries)
 }
 
-fn with_program(alloc: Global, unit: Unit, keys: &[Key]) -> Result<LinkResult, NoMemory>
+// The program of a unit.
+fn with_program(alloc: Global, unit: Unit, keys: &[Key]) -> Result<Linked, NoMemory>
     requires { keys.now ≡ keys_of unit }
-    ensures { IfOk result (λ answer. answer ≡ LinkResult.Program (program_of unit) unit.ops) }
+    ensures program { IfOk result (λ linked. linked.program ≡ program_of unit) }
+    ensures ops { IfOk result (λ linked. linked.ops ≡ unit.ops) }
 {
     let standard = OpTable::standard(alloc)?;
     printed_with(alloc, unit, keys, standard)
@@ -242,9 +252,10 @@ fn printed_with(
     unit: Unit,
     keys: &[Key],
     printed: OpTable,
-) -> Result<LinkResult, NoMemory>
+) -> Result<Linked, NoMemory>
     requires { keys.now ≡ keys_of unit }
-    ensures { IfOk result (λ answer. answer ≡ LinkResult.Program (program_with printed unit) unit.ops) }
+    ensures program { IfOk result (λ linked. linked.program ≡ program_with printed unit) }
+    ensures ops { IfOk result (λ linked. linked.ops ≡ unit.ops) }
 {
     let mut files = Items::new(alloc);
     files.push(unit.file)?;
@@ -265,7 +276,7 @@ fn printed_with(
         exports,
         entries,
     };
-    Ok(LinkResult::Program(program, ops))
+    Ok(Linked { program, ops })
 }
 
 // Whether a goal of a body names a predicate that has no clauses.
@@ -361,17 +372,20 @@ fn undefined_line(unit: &Unit, keys: &[Key]) -> Option<u64>
     lesser(export, undefined_sentence(keys, unit.sentences.as_slice()))
 }
 
-/// The program of a unit, or the least line that names a predicate without clauses.
+/// The program of a unit.
 ///
 /// # Errors
-/// Want of memory.
-pub(crate) fn link(alloc: Global, unit: Unit) -> Result<LinkResult, NoMemory>
-    ensures linked { IfOk result (λ answer. answer ≡ linked unit) }
-    ensures built { IfOk result (λ answer. (p : Program) (ops : Operators) → answer ≡ LinkResult.Program p ops → is_built p ≡ true) }
+/// The least line that names a predicate without clauses, or want of memory.
+pub(crate) fn link(alloc: Global, unit: Unit) -> Result<Linked, FileFault>
+    ensures all_defined { OnOk result (least (undefined_lines unit) ≡ None) }
+    ensures program { IfOk result (λ linked. linked.program ≡ program_of unit) }
+    ensures ops { IfOk result (λ linked. linked.ops ≡ unit.ops) }
+    ensures built { IfOk result (λ linked. is_built linked.program ≡ true) }
+    ensures err { IfErr result (Faults (NamesUndefined unit)) }
 {
     let keys = keys_of(alloc, unit.sentences.as_slice())?;
     match undefined_line(&unit, keys.as_slice()) {
-        Some(line) => Ok(LinkResult::Undefined(line)),
-        None => with_program(alloc, unit, keys.as_slice()),
+        Some(line) => Err(FileFault::Refused(line, RefusalKind::Undefined)),
+        None => Ok(with_program(alloc, unit, keys.as_slice())?),
     }
 }

@@ -1,4 +1,4 @@
-// What the sentences of a file are, and what linking makes of them.
+// What the sentences of a file are.
 ghost use Rattle.std.specs.Prelude.{IfOk, IfSome, IfNone};
 ghost use Rattle.ciao_top.specs.declared.units.sentences.ReadSentence.{ReadSentence as ReadSentenceValue};
 ghost use Rattle.ciao_top.specs.Units.{IsRead};
@@ -8,7 +8,6 @@ use crate::units::clauses::{ReadClause, read_clause};
 use crate::units::directives::changes_operators;
 use crate::units::keys::Key;
 use ciao_reader::Sentence;
-use prog_data::Program;
 use sqlite_items::Items;
 use std::alloc::Global;
 use term_core::{Names, NoMemory, OpTable};
@@ -32,13 +31,6 @@ pub(crate) struct Unit {
     pub(crate) exports: Items<Key>,
     pub(crate) sentences: Items<ReadSentence>,
     pub(crate) ops: OpTable,
-}
-
-/// A unit by its predicates: its program with the operators for queries, or the least line that names a predicate without clauses.
-#[derive(Drop)]
-pub(crate) enum LinkResult {
-    Program(Program, OpTable),
-    Undefined(u64),
 }
 
 /// What a sentence behind the module directive is read as, or `None` where it is not built yet.

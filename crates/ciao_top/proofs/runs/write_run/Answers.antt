@@ -1,6 +1,7 @@
 use Rattle.std.proofs.Common.{refl, subst, ◌∙◌}
 use Rattle.byte_io.specs.Outside.{Rose}
 use Rattle.sld_engine.specs.Runs.{left_of}
+use Rattle.ciao_top.specs.Answers.{output_of}
 use Rattle.ciao_top.specs.InnerAnswers.{Comes, HasWritten, RunTells, GoesOn}
 use Rattle.ciao_top.proofs.Comings.{stays, goes_on_twice, nothing_written, written_twice, comes_behind}
 use Rattle.ciao_top.proofs.RunEnds.{fewer_left}
@@ -12,7 +13,7 @@ events-init g c = record { so_far = nothing_written _ _; sink = stays _ _; progr
 pub events-preserved : goal.events-preserved
 events-preserved g c = record {
   so_far = written_twice _ _ _ _ _ _ c.events.invariant.so_far
-      (subst (λ b. HasWritten (RunTells c.args.program.now b (left_of c.events.run)) (RunTells c.args.program.now b (left_of c.write_next.new.run)) (g.S.Sink.written c.events.out) (g.S.Sink.written c.write_next.new.out))
+      (subst (λ b. HasWritten (RunTells c.args.program.now b (left_of c.events.run)) (RunTells c.args.program.now b (left_of c.write_next.new.run)) (output_of (g.S.Sink.written c.events.out) (g.S.Sink.taken c.events.out)) (output_of (g.S.Sink.written c.write_next.new.out) (g.S.Sink.taken c.write_next.new.out)))
       c.events.invariant.bound c.in-None.ensures.told);
   sink = goes_on_twice _ _ _ _ _ _ c.events.invariant.sink c.write_next.ensures.sink;
   program = c.write_next.ensures.program;
@@ -22,7 +23,7 @@ events-preserved g c = record {
 pub returns-in-Some : goal.returns-in-Some
 returns-in-Some g c = record {
   comes = comes_behind _ _ _ _ _ _ _ _ _ c.events.invariant.sink.later c.events.invariant.so_far
-      (subst (λ b. Comes (RunTells c.args.program.now b (left_of c.events.run)) (Rose (g.S.Sink.faults c.events.out) (g.S.Sink.faults c.write_next.new.out)) (g.S.Sink.written c.events.out) (g.S.Sink.written c.write_next.new.out) c.in-Some.status)
+      (subst (λ b. Comes (RunTells c.args.program.now b (left_of c.events.run)) (Rose (g.S.Sink.faults c.events.out) (g.S.Sink.faults c.write_next.new.out)) (output_of (g.S.Sink.written c.events.out) (g.S.Sink.taken c.events.out)) (output_of (g.S.Sink.written c.write_next.new.out) (g.S.Sink.taken c.write_next.new.out)) c.in-Some.status)
       c.events.invariant.bound c.in-Some.ensures.told);
   sink = goes_on_twice _ _ _ _ _ _ c.events.invariant.sink c.write_next.ensures.sink;
 }

@@ -1,4 +1,4 @@
-use Rattle.ciao_top.proofs.Contracts.{one_answer}
+use Rattle.ciao_top.proofs.Answers.{one_answer}
 use Rattle.ciao_top.proofs.tool.one_answer_law.Goals as goal
 
 pub returns : goal.returns

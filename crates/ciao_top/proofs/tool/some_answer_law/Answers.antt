@@ -1,4 +1,4 @@
-use Rattle.ciao_top.proofs.Contracts.{some_answer}
+use Rattle.ciao_top.proofs.Answers.{some_answer}
 use Rattle.ciao_top.proofs.tool.some_answer_law.Goals as goal
 
 pub returns : goal.returns
