@@ -1,5 +1,5 @@
 // Files with assertions: conditions that hold, and the first that is broken.
-use crate::runs::{Case, first_wrong, run_file};
+use crate::runs::{Case, run_file};
 use std::alloc::{AllocError, Global};
 use std::test::Fail;
 
@@ -343,7 +343,12 @@ const CASES: [Case; 42] = [
 
 #[test]
 fn runs_with_assertions(rt: HostRuntime) -> Result<(), Fail> {
-    assert_eq!(rt; first_wrong(&rt, rt.alloc(), &CASES)?, None);
+    let alloc = rt.alloc();
+    for case in &CASES {
+        let (out, status) = run_file(&rt, alloc, case.text.as_bytes(), case.query, case.steps)?;
+        assert_eq!(rt; out.bytes(), case.written.as_bytes());
+        assert_eq!(rt; status, case.status);
+    }
     Ok(())
 }
 

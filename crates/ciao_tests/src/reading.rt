@@ -1,5 +1,5 @@
 // Files by the whole reader: operators, quoted names, faults with their lines, and what is not built yet.
-use crate::runs::{Case, first_wrong, run_file};
+use crate::runs::{Case, run_file};
 use std::test::Fail;
 
 const CASES: [Case; 87] = [
@@ -629,7 +629,12 @@ const CASES: [Case; 87] = [
 
 #[test]
 fn files_of_the_language(rt: HostRuntime) -> Result<(), Fail> {
-    assert_eq!(rt; first_wrong(&rt, rt.alloc(), &CASES)?, None);
+    let alloc = rt.alloc();
+    for case in &CASES {
+        let (out, status) = run_file(&rt, alloc, case.text.as_bytes(), case.query, case.steps)?;
+        assert_eq!(rt; out.bytes(), case.written.as_bytes());
+        assert_eq!(rt; status, case.status);
+    }
     Ok(())
 }
 

@@ -38,18 +38,3 @@ pub(crate) fn run_file<R: Threads + Sync>(
     let status = run_tool(rt, alloc, &words, &mut files, &mut out);
     Ok((out, status))
 }
-
-// The place of the first case that has another text or another status.
-pub(crate) fn first_wrong<R: Threads + Sync>(
-    rt: &R,
-    alloc: Global,
-    cases: &[Case],
-) -> Result<Option<usize>, AllocError> {
-    for (at, case) in cases.iter().enumerate() {
-        let (out, status) = run_file(rt, alloc, case.text.as_bytes(), case.query, case.steps)?;
-        if out.bytes() != case.written.as_bytes() || status != case.status {
-            return Ok(Some(at));
-        }
-    }
-    Ok(None)
-}
