@@ -1,9 +1,10 @@
 -- The law that what is printed with quotes is read again.
 -- The headline does not rest on this file.
-use Rattle.std.specs.Prelude.{◌≡◌, ◌≤◌, ℕ, ◌^◌, Bool, true, ◌&&◌, nat_lt, nat_le, nat_eq, ℤ, pos, negsuc, List, [], length, slice_index_or, bytes_eq, IsUtf8}
-use Rattle.std.specs.List.{list_all, position_or_len, IsDistinct}
+use Rattle.std.specs.Prelude.{◌≡◌, ◌≤◌, ℕ, ◌^◌, Bool, true, nat_lt, nat_eq, ℤ, pos, negsuc, List, [], length, slice_index_or, bytes_eq, IsUtf8}
+use Rattle.std.specs.List.{position_or_len, IsDistinct}
 use Rattle.term_core.specs.Names.{fixed_names}
 use Rattle.term_core.specs.Lists.{IsPrefix}
+use Rattle.term_core.specs.Ranges.{is_compound}
 use Rattle.term_core.specs.Terms.{instance, vars}
 use Rattle.term_core.specs.Printing.{Printed}
 use Rattle.term_core.specs.Standard.{IsMade}
@@ -29,15 +30,11 @@ abbrev pub has_64_bits : ℤ → Bool
 has_64_bits (pos n) = nat_lt n (2 ^ 63)
 has_64_bits (negsuc n) = nat_lt n (2 ^ 63)
 
--- a name among so many, and 1 to 255 arguments
-abbrev pub is_readable_compound : ℕ → ℕ → List Bool → Bool
-is_readable_compound count f parts = nat_lt f count && ((nat_le 1 (length parts) && nat_le (length parts) 255) && list_all (λ part. part) parts)
-
 abbrev pub readable_step : ℕ → Term-F Bool → Bool
 readable_step count (Var v) = nat_lt v (2 ^ 64)
 readable_step count (Int n) = has_64_bits n
 readable_step count (Atom a) = nat_lt a count
-readable_step count (Node f parts) = is_readable_compound count f parts
+readable_step count (Node f parts) = is_compound count f parts
 
 -- whether each name in the term is among so many, each variable and each integer has 64 bits and each compound 1 to 255 arguments
 abbrev pub is_readable : ℕ → Term → Bool

@@ -122,8 +122,8 @@ fn limits_of_a_query(rt: HostRuntime) -> Result<(), Fail> {
         ("f(a", ",a", 255, ")", unread),
         ("[a", ",a", 4094, "]", read),
         ("[a", ",a", 4095, "]", unread),
-        ("", "- ", 4095, "a", read),
-        ("", "- ", 4096, "a", unread),
+        ("", "\\+ ", 4095, "a", read),
+        ("", "\\+ ", 4096, "a", unread),
     ] {
         let query = repeated(alloc, before, piece, times, behind)?;
         let (out, _) = run_file(&rt, alloc, COUNT.as_bytes(), &query, "1")?;

@@ -16,12 +16,13 @@ use Rattle.prog_data.specs.Goals.{called_by}
 use Rattle.machine_model.specs.Tests.{Tests, every_condition}
 use Rattle.machine_model.specs.Run.{Run, RunsFrom, start_of}
 use Rattle.machine_model.specs.Laws.{OneRun, Ends}
-use Rattle.ciao_top.specs.Words.{Word, RunWords, AcceptedWords, base_of, shown}
+use Rattle.ciao_top.specs.Words.{Word, base_of, shown}
+use Rattle.ciao_top.specs.WordsAccepted.{RunWords, AcceptedWords}
 use Rattle.ciao_top.specs.declared.units.sentences.Unit.{Unit}
 use Rattle.ciao_top.specs.declared.stops.Reason.{Reason}
 use Rattle.ciao_top.specs.declared.stops.Reason.TheVariants as reason
 use Rattle.ciao_top.specs.Lines.{reason_text, reason_status}
-use Rattle.ciao_top.specs.Units.{size_limit, names_before, IsUnit, IsNotBuilt, IsQuery}
+use Rattle.ciao_top.specs.Units.{size_limit, names_before, IsUnit}
 use Rattle.ciao_top.specs.Linked.{least, undefined_lines, program_of}
 use Rattle.ciao_top.specs.RunText.{RunText, ending_status}
 use Rattle.ciao_top.specs.Answers.{with_names, FileRefused, TooLarge, NoSentences, NotBuilt, Undefined, HasProgram, HasQuery, CommandRefused, NoFile, OfFile, Unread, NotExported, Refuses, NoCommand, OfCommand, RunAnswers, Defined, Refused, Runs, OneAnswer, SomeAnswer}

@@ -1,15 +1,11 @@
 -- The rule that a file breaks, from what its parts are.
-use Rattle.std.proofs.Common.{◌≡◌, ℕ, ◌≤◌, List, length, sym, subst, Option, Some, None}
+use Rattle.std.proofs.Common.{◌≡◌, ℕ, ◌≤◌, List, length, sym, subst, None}
 use Rattle.std.specs.Prelude.{Result, Ok, Err, IfOk, IfErr, OnOk}
 use Rattle.ciao_reader.specs.declared.sentences.Sentence.{Sentence}
 use Rattle.ciao_reader.specs.declared.sentences.Source.{Source}
 use Rattle.ciao_reader.specs.declared.sentences.ReadFault.{ReadFault}
 use Rattle.ciao_reader.specs.Sentences.{HasSentences}
 use Rattle.ciao_reader.specs.Faults.{IsUnread, IsFaultOf}
-use Rattle.term_core.specs.declared.operators.Operators.{Operators}
-use Rattle.prog_data.specs.declared.programs.Program.{Program}
-use Rattle.prog_data.specs.declared.refusals.RefusalKind.{RefusalKind}
-use Rattle.prog_data.specs.declared.refusals.RefusalKind.TheVariants as kind
 use Rattle.ciao_top.specs.Words.{Word, base_of}
 use Rattle.ciao_top.specs.declared.units.sentences.Unit.{Unit}
 use Rattle.ciao_top.specs.declared.units.linking.Linked.{Linked}

@@ -1,6 +1,6 @@
 -- What the reader of clauses takes and turns away.
 use Rattle.term_core.specs.Shapes.{is_pair}
-use Rattle.std.proofs.Common.{◌≡◌, [], ◌∷◌, Option, Some, None, true, false, refl, ap, sym, ◌∙◌, subst, true≢false}
+use Rattle.std.proofs.Common.{◌≡◌, [], ◌∷◌, Option, Some, None, true, false, ap, sym, ◌∙◌, subst, true≢false}
 use Rattle.term_core.specs.declared.terms.Term.{Term, Node, out-Term}
 use Rattle.term_core.specs.declared.terms.Term.TheVariants.{outs-Node}
 use Rattle.term_core.specs.declared.fixed.TheConstants.{COMMA, NECK}

@@ -1,13 +1,13 @@
 -- The contract of the tool, from those of its parts.
-use Rattle.std.proofs.Common.{◌≡◌, ◌⊎◌, inl, inr, ℕ, ◌+◌, ◌<◌, ◌≤◌, zero, suc, List, [], ◌∷◌, ◌++◌, take, drop, length, append-nil, refl, ◌∙◌, sym, ap, subst, Option, Some, None, IfSome, IsSome, arith}
-use Rattle.std.specs.Prelude.{Result}
+use Rattle.std.proofs.Common.{◌≡◌, ◌⊎◌, inl, inr, ℕ, ◌+◌, ◌<◌, ◌≤◌, zero, suc, List, [], ◌++◌, take, drop, length, append-nil, refl, ◌∙◌, sym, ap, subst, Option, Some, None, IfSome, IsSome, arith}
 use Rattle.std.proofs.lemmas.Option.{none-some}
 use Rattle.std.proofs.Math.Seq.{drop-append_seam}
-use Rattle.byte_io.specs.Outside.{Held, FileRead, Agrees}
+use Rattle.byte_io.specs.Outside.{Held, FileRead}
 use Rattle.term_core.specs.declared.terms.Term.{Term}
 use Rattle.prog_data.specs.declared.programs.Program.{Program}
 use Rattle.prog_data.specs.Goals.{called_by}
-use Rattle.ciao_top.specs.Words.{Word, RunWords, AcceptedWords, shown}
+use Rattle.ciao_top.specs.Words.{Word, shown}
+use Rattle.ciao_top.specs.WordsAccepted.{RunWords, AcceptedWords}
 use Rattle.ciao_top.specs.declared.stops.Reason.{Reason}
 use Rattle.ciao_top.specs.declared.stops.Reason.TheVariants as reason
 use Rattle.ciao_top.specs.declared.stops.Stop.{Stop}
@@ -16,7 +16,6 @@ use Rattle.ciao_top.specs.Lines.{reason_text, reason_status, read_fault, stop_te
 use Rattle.ciao_top.specs.Answers.{HasQuery, Refuses, NoCommand, OfCommand, RunAnswers, Defined, Refused, Runs, Agree, new_reads, Output, with_piece, ReadsOnly, Nothing, Once, IsPrefix, Answered, Complete}
 use Rattle.ciao_top.specs.InnerAnswers.{Only, HasBegun, Comes, Whole, SinkFailed, MemoryWanted, Stops, OneRead}
 use Rattle.ciao_top.proofs.Refusals.{same_some, one_prepared, one_refusal, none_accepted, some_called, run_words_not_refused}
-use Rattle.ciao_top.proofs.Comings.{same_grown}
 use Rattle.ciao_top.proofs.Files.{one_new, read_of}
 use Rattle.ciao_top.proofs.Statuses.{apart, above, reason_small, reason_two, of_ending, small_or_fault}
 

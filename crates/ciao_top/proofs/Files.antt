@@ -1,7 +1,6 @@
 -- What a read of a command's file says of all files that agree with it.
-use Rattle.std.proofs.Common.{◌≡◌, ◌⊎◌, inl, inr, ℕ, ◌+◌, ◌<◌, ◌≤◌, List, [], ◌∷◌, ◌++◌, take, drop, length, refl, ◌∙◌, sym, ap, subst, Option, Some, None, option_map, arith, lit<}
+use Rattle.std.proofs.Common.{◌≡◌, ℕ, ◌+◌, ◌<◌, ◌≤◌, List, [], ◌∷◌, ◌++◌, take, drop, length, refl, ◌∙◌, sym, ap, subst, Option, Some, None, option_map, arith, lit<}
 use Rattle.std.specs.Prelude.{Result, Ok, Err, IfOk, IfErr, IfSome}
-use Rattle.std.specs.List.{AllByRecursion}
 use Rattle.std.proofs.lemmas.Option.{none-some}
 use Rattle.std.proofs.lemmas.List.{take_all, length-take}
 use Rattle.std.proofs.Math.Seq.{drop-append_seam}
@@ -12,7 +11,8 @@ use Rattle.term_core.specs.declared.operators.Operators.{Operators}
 use Rattle.prog_data.specs.declared.programs.Program.{Program}
 use Rattle.prog_data.specs.declared.refusals.RefusalKind.{RefusalKind}
 use Rattle.prog_data.specs.declared.refusals.RefusalKind.TheVariants as kind
-use Rattle.ciao_top.specs.Words.{Word, RunWords, shown}
+use Rattle.ciao_top.specs.Words.{Word, shown}
+use Rattle.ciao_top.specs.WordsAccepted.{RunWords}
 use Rattle.ciao_top.specs.declared.prepare.Prepared.{Prepared}
 use Rattle.ciao_top.specs.declared.stops.Stop.{Stop}
 use Rattle.ciao_top.specs.declared.stops.Stop.TheVariants as stop

@@ -1,28 +1,35 @@
-pub mod Answers
-pub mod AssertionLaws
-pub mod AssertionSteps
-pub mod BodyFolds
-pub mod BrokenRules
-pub mod ClauseSteps
-pub mod Comings
-pub mod Compounds
-pub mod Conjunctions
-pub mod Contracts
-pub mod DirectiveSteps
-pub mod Files
-pub mod Least
-pub mod LinkBuilt
-pub mod MainFiles
-pub mod NamesBefore
-pub mod NodeLaws
-pub mod Numbers
-pub mod Partners
-pub mod ReadingLaws
-pub mod Refusals
-pub mod RunEnds
-pub mod RunTexts
-pub mod SentenceLaws
-pub mod Statuses
-pub mod SuccessConditions
-pub mod TextLaws
-pub mod UnitLaws
+mod Answers
+mod AssertionLaws
+mod AssertionSteps
+mod BodyFolds
+mod BrokenRules
+mod ClauseSteps
+mod Comings
+mod Compounds
+mod ConditionPlaces
+mod Conjunctions
+mod Contracts
+mod DirectiveSteps
+mod Files
+mod KeyPlaces
+mod Least
+mod LinkBuilt
+mod LinkRange
+mod LinkedPrograms
+mod MainFiles
+mod NamesBefore
+mod NodeLaws
+mod Numbers
+mod Partners
+mod RangeOfSentences
+mod RangeOfUnits
+mod ReadingLaws
+mod Refusals
+mod RunEnds
+mod RunTexts
+mod SentenceLaws
+mod Statuses
+mod SuccessConditions
+mod TextLaws
+mod UnitLaws
+mod WordLaws

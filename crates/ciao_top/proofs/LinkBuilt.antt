@@ -6,7 +6,6 @@ use Rattle.std.proofs.lemmas.Bool.{and_from}
 use Rattle.term_core.specs.declared.terms.Term.{Term}
 use Rattle.prog_data.specs.declared.conditions.Cond.{Cond}
 use Rattle.prog_data.specs.declared.goals.Goal.{Goal}
-use Rattle.prog_data.specs.declared.programs.Program.{Program}
 use Rattle.prog_data.specs.Conditions.{is_comp}
 use Rattle.prog_data.proofs.GoalFolds.{fold-True, fold-Call, fold-Conj}
 use Rattle.ciao_top.specs.declared.units.keys.Key.{Key}
@@ -72,10 +71,10 @@ Held P = Holds.Such (Carrier.Values block.the_members block.the_sigs block.the_c
 
 module _ (keys : List Key) where
   -- a goal by itself, and two bodies joined, as a goal
-  goal_of_one : (t : Term) → goal_of keys (One t) ≡ call_of keys t
+  pub goal_of_one : (t : Term) → goal_of keys (One t) ≡ call_of keys t
   goal_of_one t = ap (goal_of keys) (sym (rolls-One t)) ∙ fold-roll-Body Goal (body_step keys) (layer.One t)
 
-  goal_of_both : (a b : Body) → goal_of keys (Both a b) ≡ body_step keys (layer.Both (goal_of keys a) (goal_of keys b))
+  pub goal_of_both : (a b : Body) → goal_of keys (Both a b) ≡ body_step keys (layer.Both (goal_of keys a) (goal_of keys b))
   goal_of_both a b = ap (goal_of keys) (sym (rolls-Both a b)) ∙ fold-roll-Body Goal (body_step keys) (layer.Both a b)
 
   abbrev IsBuilt : Body → Type 0

@@ -45,6 +45,13 @@ added text old = by (list_any (bytes_eq text) old) refl
     by true is = (sym is, refl)
     by false is = (list_any-append (bytes_eq text) old (text ∷ []) ∙ ap (λ b. b || (bytes_eq text text || false)) (sym is) ∙ ap (λ b. b || false) (same_text text), place_push (bytes_eq text) old text (same_text text))
 
+-- a base name and its file are among the names before those of the file's text
+pub file_there : (base : Word) → list_any (bytes_eq (file_text base)) (names_before base) ≡ true
+file_there base = (added (file_text base) (with_text fixed_names base)).0
+
+pub name_there : (base : Word) → list_any (bytes_eq base) (names_before base) ≡ true
+name_there base = (stays_with base (with_text fixed_names base) (file_text base) (added base fixed_names).0).0
+
 -- names to which a base name and its file are added
 module _ (base text : Word) (first second third : List Word) (first_is : first ≡ fixed_names) (second_is : second ≡ with_text first base) (text_is : text ≡ file_text base) (third_is : third ≡ with_text second text) where
   with_base : second ≡ with_text fixed_names base

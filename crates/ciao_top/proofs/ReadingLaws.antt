@@ -1,6 +1,5 @@
 -- A sentence behind the module directive is read as one thing at most.
 use Rattle.std.proofs.Common.{◌≡◌, List, [], ◌∷◌, length, refl, ap, sym, ◌∙◌, arith}
-use Rattle.term_core.specs.declared.terms.Term.{Term}
 use Rattle.term_core.specs.declared.terms.Term as term
 use Rattle.term_core.specs.declared.fixed.TheConstants.{NECK, COLON, IMPLIES, PRED}
 use Rattle.ciao_reader.specs.declared.sentences.Sentence.{Sentence}

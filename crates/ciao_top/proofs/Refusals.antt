@@ -12,7 +12,8 @@ use Rattle.prog_data.specs.declared.programs.Program.{Program}
 use Rattle.prog_data.specs.declared.refusals.RefusalKind.{RefusalKind}
 use Rattle.prog_data.specs.declared.refusals.RefusalKind.TheVariants as kind
 use Rattle.prog_data.specs.Goals.{called_by}
-use Rattle.ciao_top.specs.Words.{Word, RunWords, AcceptedWords, base_of, shown}
+use Rattle.ciao_top.specs.Words.{Word, base_of, shown}
+use Rattle.ciao_top.specs.WordsAccepted.{RunWords, AcceptedWords}
 use Rattle.ciao_top.specs.declared.units.sentences.Unit.{Unit}
 use Rattle.ciao_top.specs.declared.stops.FileFault.TheVariants as fault
 use Rattle.ciao_top.specs.declared.stops.Reason.{Reason}

@@ -1,7 +1,7 @@
 -- A text is one unit at most, has one line that is not built yet at most, or no sentences; never two of these. A text is one query at most.
 use Rattle.std.proofs.Common.{◌≡◌, ℕ, List, false, refl, sym, ap, ◌∙◌, subst}
-use Rattle.std.proofs.lemmas.Bool.{true≢false, false≢true}
-use Rattle.term_core.specs.declared.terms.Term.{Term, out-Term}
+use Rattle.std.proofs.lemmas.Bool.{false≢true}
+use Rattle.term_core.specs.declared.terms.Term.{Term}
 use Rattle.term_core.specs.declared.operators.Operators.{Operators}
 use Rattle.term_core.specs.Names.{place_of}
 use Rattle.term_core.specs.Standard.{IsMade, start}
@@ -10,7 +10,7 @@ use Rattle.ciao_reader.specs.declared.sentences.Sentence.{Sentence}
 use Rattle.ciao_reader.specs.declared.sentences.Source.{Source}
 use Rattle.ciao_reader.specs.declared.sentences.ReadFault.{ReadFault}
 use Rattle.ciao_reader.specs.declared.sentences.ReadFault.TheVariants.{NotUtf8, BadToken, IntRange, Syntax, TooDeep, OpRefused, NoEnd, NoMemory}
-use Rattle.ciao_reader.specs.Sentences.{HasSentences, HasGoal, ReadsTo, none, next}
+use Rattle.ciao_reader.specs.Sentences.{HasSentences, ReadsTo, none, next}
 use Rattle.ciao_tokens.specs.declared.kinds.TextFault.TheVariants as text
 use Rattle.ciao_reader.specs.Faults.{of_tokens, of_sentences, IsUnread, IsNoGoal, IsFaultOf, IsGoalFaultOf}
 use Rattle.ciao_reader.proofs.MadeAfter.{made_after}

@@ -3,7 +3,8 @@ use Rattle.std.specs.Prelude.{◌≡◌, ◌⊎◌, ℕ, ◌<◌, ◌≤◌, ◌
 use Rattle.std.specs.List.{AllByRecursion}
 use Rattle.byte_io.specs.Outside.{Held, FileRead, Agrees, Rose, grown}
 use Rattle.byte_io.specs.declared.files.FilesFault.{FilesFault}
-use Rattle.ciao_top.specs.Words.{Word, RunWords, AcceptedWords, base_of, shown}
+use Rattle.ciao_top.specs.Words.{Word, base_of, shown}
+use Rattle.ciao_top.specs.WordsAccepted.{RunWords, AcceptedWords}
 use Rattle.term_core.specs.declared.terms.Term.{Term}
 use Rattle.term_core.specs.declared.operators.Operators.{Operators}
 use Rattle.prog_data.specs.declared.programs.Program.{Program}

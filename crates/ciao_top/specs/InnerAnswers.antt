@@ -10,13 +10,12 @@ use Rattle.prog_data.specs.declared.events.Event.{Event}
 use Rattle.prog_data.specs.declared.events.Event.TheVariants.{Out, Answer, End, Broken}
 use Rattle.prog_data.specs.declared.events.Ending.{Ending}
 use Rattle.prog_data.specs.declared.refusals.RefusalKind.{RefusalKind}
-use Rattle.prog_data.specs.declared.refusals.RefusalKind.TheVariants as kind
 use Rattle.prog_data.specs.Goals.{called_by}
 use Rattle.machine_model.specs.Tests.{every_condition}
 use Rattle.machine_model.specs.Continues.{Left, Continues, Leads}
-use Rattle.ciao_top.specs.Words.{Word, RunWords, shown}
+use Rattle.ciao_top.specs.Words.{Word, shown}
+use Rattle.ciao_top.specs.WordsAccepted.{RunWords}
 use Rattle.ciao_top.specs.declared.words.RunCommand.{RunCommand}
-use Rattle.ciao_top.specs.declared.stops.Reason.{Reason}
 use Rattle.ciao_top.specs.declared.stops.Reason.TheVariants as reason
 use Rattle.ciao_top.specs.declared.stops.Stop.{Stop}
 use Rattle.ciao_top.specs.declared.stops.Stop.TheVariants as stop

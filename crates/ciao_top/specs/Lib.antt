@@ -1,4 +1,7 @@
 pub mod Words
+pub mod WordsTable
+pub mod WordsCut
+pub mod WordsAccepted
 pub mod Lines
 pub mod FileFaults
 pub mod Keys
@@ -13,5 +16,8 @@ pub mod Conditions
 pub mod Linked
 pub mod RunText
 pub mod Answers
+pub mod UnitRange
 pub mod UnitSteps
 pub mod InnerAnswers
+pub mod WordsFound
+pub mod WordsSeen

@@ -5,6 +5,7 @@ use Rattle.std.specs.List.{list_any, position_or_len}
 use Rattle.term_core.specs.Standard.{standard}
 use Rattle.term_core.specs.declared.operators.Operators.{Operators}
 use Rattle.term_core.specs.declared.terms.Term.{Term, out-Term}
+use Rattle.term_core.specs.Shapes.{parts_of}
 use Rattle.prog_data.specs.declared.goals.Goal.{Goal}
 use Rattle.prog_data.specs.declared.goals.Goal as goal
 use Rattle.prog_data.specs.declared.programs.Clause.{Clause}
@@ -12,7 +13,6 @@ use Rattle.prog_data.specs.declared.programs.Pred.{Pred}
 use Rattle.prog_data.specs.declared.programs.Program.{Program}
 use Rattle.prog_data.specs.declared.refusals.RefusalKind.{RefusalKind}
 use Rattle.prog_data.specs.declared.refusals.RefusalKind.TheVariants as kind
-use Rattle.prog_data.specs.Goals.{parts_of}
 use Rattle.prog_data.specs.BasicNames.{basic_grammar}
 use Rattle.prog_data.specs.declared.conditions.Cond.{Cond}
 use Rattle.ciao_top.specs.declared.units.keys.Key.{Key}

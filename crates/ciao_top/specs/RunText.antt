@@ -1,5 +1,6 @@
 -- The text and the status of a run, from its events and its ending.
 use Rattle.std.specs.Prelude.{ℕ, true, List, [], ◌∷◌, ◌++◌, flat_map, slice_get, Option, None, Some, codes, decimal}
+use Rattle.std.specs.Str.{byte}
 use Rattle.term_core.specs.Printing.{Printed}
 use Rattle.term_core.specs.Names.{name_text}
 use Rattle.term_core.specs.declared.terms.Term.{Term}
@@ -21,7 +22,7 @@ use Rattle.ciao_top.specs.Words.{Word}
 
 -- a line: its text and a line feed
 abbrev pub line : Word → Word
-line text = text ++ 10 ∷ []
+line text = text ++ byte "\n" ∷ []
 
 -- the word for the kind of a condition
 abbrev pub kind_word : CondKind → Word
@@ -45,16 +46,16 @@ module _ (program : Program) where
 
   -- a place: the file, a colon and the line
   abbrev pub place_text : Place → Word
-  place_text place = name_text program.names place.file ++ 58 ∷ decimal place.line
+  place_text place = name_text program.names place.file ++ byte ":" ∷ decimal place.line
 
   -- a predicate: its name, a slash and its arity
   abbrev pub pred_text : ℕ → Word
-  pred_text p = quoted_text (term.Atom (pred_of program p).name) ++ 47 ∷ decimal (pred_of program p).arity
+  pred_text p = quoted_text (term.Atom (pred_of program p).name) ++ byte "/" ∷ decimal (pred_of program p).arity
 
   -- the line of a condition that was broken, behind these words
   abbrev pub violated_text : Word → Option Cond → Word
   violated_text words None = []
-  violated_text words (Some c) = line (words ++ place_text c.place ++ 32 ∷ kind_word c.kind ++ 32 ∷ pred_text c.pred)
+  violated_text words (Some c) = line (words ++ place_text c.place ++ byte " " ∷ kind_word c.kind ++ byte " " ∷ pred_text c.pred)
 
   -- the line of an ending
   abbrev pub ending_text : Ending → Word
@@ -62,7 +63,7 @@ module _ (program : Program) where
   ending_text Bound = line (codes "end: unknown, step bound")
   ending_text (Violated c) = violated_text (codes "end: violated ") (slice_get program.conds c)
   ending_text (Cyclic place) = line (codes "end: cyclic term " ++ place_text place)
-  ending_text (Arithmetic kind place) = line (codes "end: arithmetic " ++ arithmetic_words kind ++ 32 ∷ place_text place)
+  ending_text (Arithmetic kind place) = line (codes "end: arithmetic " ++ arithmetic_words kind ++ byte " " ∷ place_text place)
 
   -- the text of an event
   abbrev pub event_text : Event → Word

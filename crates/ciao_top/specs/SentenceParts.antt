@@ -1,6 +1,6 @@
 -- The parts of a sentence's term that its reader looks at.
 -- The headline does not rest on this file.
-use Rattle.std.specs.Prelude.{ℕ, Bool, false, true, ◌&&◌, ◌==◌, ◌≡◌, List, [], ◌∷◌, map, Option, Some, None, pos}
+use Rattle.std.specs.Prelude.{Bool, false, ◌&&◌, ◌==◌, ◌≡◌, List, [], ◌∷◌, map, Option, Some, None, pos}
 use Rattle.term_core.specs.declared.terms.Term.{Term, out-Term}
 use Rattle.term_core.specs.declared.terms.Term.TheOpen.{Term-F, Int, Atom, Node}
 use Rattle.term_core.specs.declared.terms.Term as term

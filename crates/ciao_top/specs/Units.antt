@@ -1,7 +1,7 @@
 -- A file as it is read: its module directive and the sentences behind it, or the line of the first sentence that is not built yet; and queries.
-use Rattle.std.specs.Prelude.{◌≡◌, ℕ, true, ◌++◌, ◌∷◌, [], List, codes}
+use Rattle.std.specs.Prelude.{◌≡◌, ℕ, ◌++◌, ◌∷◌, [], List, codes}
 use Rattle.std.specs.List.{AllZip}
-use Rattle.term_core.specs.declared.terms.Term.{Term, out-Term}
+use Rattle.term_core.specs.declared.terms.Term.{Term}
 use Rattle.term_core.specs.declared.operators.Operators.{Operators}
 use Rattle.term_core.specs.Names.{fixed_names, place_of, with_text}
 use Rattle.ciao_reader.specs.declared.sentences.Sentence.{Sentence}

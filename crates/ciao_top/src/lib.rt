@@ -9,4 +9,5 @@ mod tool;
 mod units;
 mod words;
 
+pub use prepare::linked_programs_law;
 pub use tool::{completeness_law, fixed_names_law, one_answer_law, run_tool, some_answer_law};

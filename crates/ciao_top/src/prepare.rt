@@ -5,15 +5,18 @@ ghost use Rattle.prog_data.specs.Goals.{called_by};
 ghost use Rattle.sld_engine.specs.Built.{is_built};
 ghost use Rattle.ciao_top.specs.Words.{is_main_file, shown};
 ghost use Rattle.ciao_top.specs.UnitSteps.{Faults};
+ghost use Rattle.ciao_top.specs.UnitRange.{IsProgramLinked, IsQueryLinked, ProgramsAreLinked};
 ghost use Rattle.ciao_top.specs.Answers.{FileRefused, IsLinked, HasQuery, Agree, new_reads};
 ghost use Rattle.ciao_top.specs.InnerAnswers.{run_words, DeviceGoesOn, FileStops, IsRule, IsUnreadable, HasQueryOf, QueryFaults, Stops, Fronts, OneRead};
 
 use crate::stops::{FileFault, Reason, Stop};
 use crate::units::linking::{Linked, link};
-use crate::units::{file_text, read_query, read_unit};
+use crate::units::{file_text, read_query, read_unit, units_law};
 use crate::words::{RunCommand, base_of};
 use byte_io::{Files, FilesFault};
-use prog_data::{Program, RefusalKind, Text, called_by};
+use ciao_reader::in_range_law;
+use ciao_tokens::named_tokens_law;
+use prog_data::{Program, RefusalKind, Text, called_by, program_ranges_law};
 use std::alloc::Global;
 use term_core::{NoMemory, Term};
 
@@ -85,6 +88,7 @@ fn read_file<F: Files>(
 fn link_bytes(alloc: Global, file: &str, bytes: &[u8]) -> Result<Linked, FileFault>
     requires { is_main_file file.now ≡ true }
     ensures ok { IfOk result (λ linked. IsLinked file.now bytes.now linked.program linked.ops) }
+    ensures linked { IfOk result (λ linked. IsProgramLinked linked.program) }
     ensures built { IfOk result (λ linked. is_built linked.program ≡ true) }
     ensures err { IfErr result (Faults (FileRefused file.now bytes.now)) }
 {
@@ -99,6 +103,7 @@ fn link_bytes(alloc: Global, file: &str, bytes: &[u8]) -> Result<Linked, FileFau
 fn link_file(alloc: Global, file: &str, bytes: &[u8]) -> Result<Linked, Stop>
     requires { is_main_file file.now ≡ true }
     ensures ok { IfOk result (λ linked. IsLinked file.now bytes.now linked.program linked.ops) }
+    ensures linked { IfOk result (λ linked. IsProgramLinked linked.program) }
     ensures built { IfOk result (λ linked. is_built linked.program ≡ true) }
     ensures err { IfErr result (FileStops (shown file.now) (FileRefused file.now bytes.now)) }
 {
@@ -111,12 +116,15 @@ fn link_file(alloc: Global, file: &str, bytes: &[u8]) -> Result<Linked, Stop>
 
 // The program with the query that a text is.
 fn with_query(alloc: Global, linked: Linked, text: &str) -> Result<Prepared, Stop>
-    requires { is_built linked.program ≡ true }
+    requires linked { IsProgramLinked linked.program }
+    requires built { is_built linked.program ≡ true }
     ensures ok { IfOk result (λ prepared. HasQueryOf linked.program linked.ops text.now prepared.program prepared.query) }
     ensures called { IfOk result (λ prepared. IsSome (called_by prepared.program prepared.query)) }
+    ensures linked { IfOk result (λ prepared. IsQueryLinked prepared.program prepared.query) }
     ensures built { IfOk result (λ prepared. is_built prepared.program ≡ true) }
     ensures err { IfErr result (QueryFaults linked.program linked.ops text.now) }
 {
+    program_ranges_law(); // for the proof
     let Linked { program, ops } = linked;
     let mut program = program;
     match read_query(alloc, &mut program.names, &ops, text)? {
@@ -141,6 +149,7 @@ pub(crate) fn prepare<F: Files>(
     ensures reads { OneRead (F.held files.old) (run_words command.now) (F.reads files.old) (F.reads files.new) }
     ensures ok { IfOk result (λ prepared. (held : Held) → Agree (new_reads (F.reads files.old) (F.reads files.new)) held → HasQuery held (run_words command.now) prepared.program prepared.query) }
     ensures called { IfOk result (λ prepared. IsSome (called_by prepared.program prepared.query)) }
+    ensures linked { IfOk result (λ prepared. IsQueryLinked prepared.program prepared.query) }
     ensures built { IfOk result (λ prepared. is_built prepared.program ≡ true) }
     ensures err { IfErr result (Stops (run_words command.now) (new_reads (F.reads files.old) (F.reads files.new)) (Rose (F.faults files.old) (F.faults files.new))) }
     ensures kept { F.held files.new ≡ F.held files.old }
@@ -149,4 +158,14 @@ pub(crate) fn prepare<F: Files>(
     let bytes = read_file(alloc, command, files)?;
     let linked = link_file(alloc, command.file, &bytes)?;
     with_query(alloc, linked, command.query)
+}
+
+/// The program of a file is in range and as the linker makes it, and so it is with the names of a query.
+pub fn linked_programs_law()
+    ensures { ProgramsAreLinked }
+{
+    units_law();
+    named_tokens_law();
+    in_range_law();
+    program_ranges_law();
 }

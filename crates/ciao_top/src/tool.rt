@@ -82,7 +82,7 @@ pub fn completeness_law()
     ensures { Completeness }
 {}
 
-/// The numbers by which files tell operators and built-ins are those of their texts.
+/// The names that ask something of an argument are those of the basic properties, with what each asks.
 pub fn fixed_names_law()
     ensures { FixedNamesArePlaces }
 {}

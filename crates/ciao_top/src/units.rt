@@ -1,9 +1,11 @@
 // Files and queries: from their text to a unit, or to the rule that it breaks.
-ghost use Rattle.std.specs.Prelude.{◌≡◌, ◌∷◌, List, ℕ, IfOk, IfErr, IfSome, IfNone, string_bytes};
+ghost use Rattle.std.specs.Prelude.{◌≡◌, ◌∷◌, List, ℕ, true, length, IfOk, IfErr, IfSome, IfNone, string_bytes};
 ghost use Rattle.std.specs.List.{AllZip};
 ghost use Rattle.term_core.specs.declared.terms.Term.{Term as TermValue};
 ghost use Rattle.term_core.specs.Lists.{IsPrefix};
+ghost use Rattle.term_core.specs.Ranges.{has_names};
 ghost use Rattle.ciao_top.specs.Units.{file_text, IsRead, AreRead, NotBuiltAt, IsUnit, IsQuery};
+ghost use Rattle.ciao_top.specs.UnitRange.{IsUnitInRange, UnitsAreInRange};
 ghost use Rattle.ciao_top.specs.UnitSteps.{wants_memory, Faults, NotBuiltIn, StopsAt, BreaksRule};
 
 pub(crate) mod assertions;
@@ -15,7 +17,8 @@ pub(crate) mod linking;
 pub(crate) mod sentences;
 
 use crate::stops::FileFault;
-use ciao_reader::{ReadFault, Sentence, read_goal, read_sentences};
+use ciao_reader::{ReadFault, Sentence, in_range_law, read_goal, read_sentences};
+use ciao_tokens::named_tokens_law;
 use directives::{names_module, read_exports};
 use keys::Key;
 use prog_data::RefusalKind;
@@ -107,14 +110,24 @@ fn read_all(
     }
 }
 
+/// The unit that a file is is in range.
+pub(crate) fn units_law()
+    ensures { UnitsAreInRange }
+{
+    named_tokens_law();
+    in_range_law();
+}
+
 /// The unit that a file with this base name is, which has at most 1,048,576 bytes.
 ///
 /// # Errors
 /// The rule that it breaks, or want of memory.
 pub(crate) fn read_unit(alloc: Global, base: &str, bytes: &[u8]) -> Result<Unit, FileFault>
     ensures ok { IfOk result (λ unit. IsUnit base.now bytes.now unit) }
+    ensures in_range { IfOk result IsUnitInRange }
     ensures err { IfErr result (Faults (BreaksRule base.now bytes.now)) }
 {
+    units_law(); // for the proof
     let mut names = Names::new(alloc)?;
     let name = names.intern(base)?;
     let text = file_text(alloc, base)?;
@@ -151,6 +164,7 @@ pub(crate) fn read_query(
 ) -> Result<Option<Term>, NoMemory>
     ensures some { IfOk result (λ answer. IfSome answer (λ query. IsQuery ops.now names.old text.now names.new query)) }
     ensures none { IfOk result (λ answer. IfNone answer ((more : List (List ℕ)) (query : TermValue) → IsQuery ops.now names.old text.now more query → ⊥)) }
+    ensures in_range { IfOk result (λ answer. IfSome answer (λ query. has_names (length names.new) query ≡ true)) }
     ensures kept { IsPrefix names.old names.new }
 {
     ops.made();

@@ -1,8 +1,15 @@
 // The words of the command line that are accepted.
-ghost use Rattle.std.specs.Prelude.{◌≡◌, ℕ, ◌+◌, ◌*◌, ◌≤◌, ◌<◌, Bool, true, List, map, length, Option, option_map, string_bytes, None, IfSome, IfNone, IsNone};
-ghost use Rattle.ciao_top.specs.Words.{number_of, number_behind, is_digit, is_main_file, shown, AcceptedWords, base_of, has_run_shape};
+ghost use Rattle.std.specs.Prelude.{◌≡◌, ℕ, ◌+◌, ◌*◌, ◌≤◌, ◌<◌, Bool, true, List, map, length, Option, option_map, string_bytes, None, IfSome, IfNone, IfOk, IsNone};
+ghost use Rattle.ciao_top.specs.Words.{number_of, number_behind, is_digit, is_main_file, shown, base_of};
+ghost use Rattle.ciao_top.specs.WordsTable.{run_row};
+ghost use Rattle.ciao_top.specs.WordsAccepted.{AcceptedWords, number_within, run_by};
+ghost use Rattle.ciao_top.specs.WordsFound.{run_found};
+ghost use Rattle.ciao_top.specs.WordsSeen.{option_seen, few_seen, value_seen};
 ghost use Rattle.ciao_top.specs.InnerAnswers.{run_words};
 
+mod cutting;
+
+use cutting::{FewValues, FewWords, OptionRow, find_words};
 use term_core::is_lower_word;
 
 /// A run of a query of a file, with the greatest number of calls.
@@ -13,7 +20,16 @@ pub(crate) struct RunCommand<'a> {
     pub(crate) steps: u64,
 }
 
-const MOST_STEPS: u64 = 9_223_372_036_854_775_807;
+// `--steps N`
+const STEPS: OptionRow = OptionRow {
+    name: "--steps",
+    least: 0,
+    most: 9_223_372_036_854_775_807,
+    is_needed: true,
+};
+
+// The options of `run`.
+const RUN_OPTIONS: [OptionRow; 1] = [STEPS];
 
 fn is_digit(byte: u8) -> bool
     ensures { result ≡ is_digit byte }
@@ -91,13 +107,58 @@ pub(crate) fn base_of(file: &str) -> &str
     }
 }
 
-fn has_run_shape(words: &[String]) -> bool
-    ensures { result ≡ has_run_shape (map string_bytes words.now) }
+// The number that a word is, within the limits of an option.
+fn number_within(row: &OptionRow, word: &[u8]) -> Option<u64>
+    ensures { result ≡ number_within (option_seen row.now) word.now }
 {
-    words.len() == 5
-        && words[0].as_bytes() == "run".as_bytes()
-        && is_main_file(words[1].as_bytes())
-        && words[3].as_bytes() == "--steps".as_bytes()
+    match number(word, row.most) {
+        None => None,
+        Some(found) => {
+            if row.least <= found {
+                Some(found)
+            } else {
+                None
+            }
+        }
+    }
+}
+
+// The run of two positional words and of the value of `--steps`.
+fn run_found<'a>(positional: FewWords<'a>, value: FewValues<'a>) -> Option<RunCommand<'a>>
+    ensures main { IfSome result (λ command. is_main_file command.file.now ≡ true) }
+    ensures command { option_map run_words result ≡ run_found (few_seen positional.entry) (value_seen value.entry) }
+{
+    match positional {
+        FewWords::Two(file, query) => match value {
+            FewValues::One(value) => {
+                if is_main_file(file.as_bytes()) {
+                    match number_within(&STEPS, value) {
+                        None => None,
+                        Some(steps) => Some(RunCommand { file, query, steps }),
+                    }
+                } else {
+                    None
+                }
+            }
+            FewValues::Nothing => None,
+            FewValues::More => None,
+        },
+        FewWords::Nothing => None,
+        FewWords::One(_) => None,
+        FewWords::More => None,
+    }
+}
+
+// The run that the words behind `run` are, if they are accepted.
+#[tactic(auto, using(crate::proofs::WordLaws::run_is))]
+fn read_run(words: &[String]) -> Option<RunCommand<'_>>
+    ensures main { IfSome result (λ command. is_main_file command.file.now ≡ true) }
+    ensures command { option_map run_words result ≡ run_by (map string_bytes words.now) run_row }
+{
+    match find_words(&RUN_OPTIONS, STEPS.name, words) {
+        None => None,
+        Some(found) => run_found(found.positional, found.value),
+    }
 }
 
 /// The command, if the words are accepted.
@@ -105,18 +166,14 @@ pub(crate) fn read_words(words: &[String]) -> Option<RunCommand<'_>>
     ensures main { IfSome result (λ command. is_main_file command.file.now ≡ true) }
     ensures command { option_map run_words result ≡ AcceptedWords (map string_bytes words.now) }
 {
-    if !has_run_shape(words) {
-        return None;
-    }
-    if words.len() != 5 {
-        return None;
-    }
-    match number(words[4].as_bytes(), MOST_STEPS) {
+    match words.split_first() {
         None => None,
-        Some(steps) => Some(RunCommand {
-            file: words[1].as_str(),
-            query: words[2].as_str(),
-            steps,
-        }),
+        Some((name, rest)) => {
+            if "run" == name.as_str() {
+                read_run(rest)
+            } else {
+                None
+            }
+        }
     }
 }

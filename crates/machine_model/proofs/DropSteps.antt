@@ -1,7 +1,7 @@
 -- Each step of a run that tests every condition is followed by the run that has only some, until one of the others is broken.
 use Rattle.std.proofs.Common.{◌≡◌, ℕ, suc, Bool, true, false, ◌+◌, List, [], ◌∷◌, ◌++◌, length, refl, ap, sym, ◌∙◌, subst, cond, ◌⊎◌, inl, inr}
 use Rattle.std.specs.Prelude.{nat_le, not, ◌||◌, filter, slice_get, slice_index_or, Option, None, Some, if◌then◌else◌}
-use Rattle.term_core.specs.declared.terms.Term.{Term, out-Term}
+use Rattle.term_core.specs.declared.terms.Term.{Term}
 use Rattle.term_core.specs.declared.terms.Term as term
 use Rattle.term_core.specs.declared.equations.Outcome.TheVariants.{Solved, Clash, Cyclic}
 use Rattle.term_core.specs.Unify.{Stage, Open, Ended, values}
@@ -24,7 +24,7 @@ use Rattle.prog_data.specs.Goals.{pred_of}
 use Rattle.machine_model.specs.State.{Item, Frame, Call, Choice, Try, Current, Doing, Failed, State, Phase, Going, Over, Trace, cut}
 use Rattle.machine_model.specs.Tests.{Tests, Looks, all_looks, only_looks}
 use Rattle.machine_model.specs.Step.{step, frame_step, goal_step, call_step, call_made, builtin_step, failure_step, try_step, solving_step, finding, after_test, after_tests, tries, with_mark, mark_height, mark_conds, mark_exited, quietly, Effect, Succeeds, Fails, Writes, Equates, Becomes, Faults, effect}
-use Rattle.machine_model.proofs.DropRelation.{Kind, Plain, plain, Older, whole, newer, older_older, Marks, Items, does, cuts, exits, items_over, items_instance, Frames, frames, Calls, calls, calls_over, Choices, resume, try, kept, dropped, Currents, doing, solving, failed, States, states, length_kinds, plain_kinds, cut_choices, filter_keep, filter_drop, Agree, filter_kept, Found, exit_related, Marked, mark_new}
+use Rattle.machine_model.proofs.DropRelation.{Kind, Plain, plain, Older, whole, newer, Items, does, cuts, exits, items_over, items_instance, Frames, frames, Calls, calls, calls_over, Choices, resume, try, kept, dropped, Currents, doing, solving, failed, States, states, length_kinds, plain_kinds, cut_choices, filter_keep, filter_drop, Agree, filter_kept, Found, exit_related, mark_new}
 use Rattle.machine_model.proofs.DropRelation as rel
 
 -- the events that the run with fewer tests has too: of broken conditions that are told, those that are kept

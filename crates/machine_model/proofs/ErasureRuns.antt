@@ -15,8 +15,9 @@ use Rattle.prog_data.specs.declared.events.Event.TheVariants as event
 use Rattle.prog_data.specs.declared.events.Ending.{Ending}
 use Rattle.prog_data.specs.declared.events.Ending.TheVariants as ending
 use Rattle.prog_data.specs.Goals.{pred_of, no_pred, ends_in_exit, ends_in_exit_at, without_exit_at, called_by, calls_pred, is_called}
+use Rattle.prog_data.specs.Programs.{HasNoExit}
 use Rattle.machine_model.specs.Tests.{Looks, all_looks, only_looks}
-use Rattle.machine_model.specs.Erasure.{erase, erase_pred, erase_clause, HasNoExit}
+use Rattle.machine_model.specs.Erasure.{erase, erase_pred, erase_clause}
 use Rattle.machine_model.specs.Laws.{Erases, ToldErases, IsViolated, BreaksOther, without_broken}
 use Rattle.machine_model.specs.Run.{Run}
 use Rattle.machine_model.proofs.DropSteps.{Fewer, is_seen}

@@ -12,8 +12,8 @@ use Rattle.prog_data.specs.declared.programs.Clause.{Clause}
 use Rattle.prog_data.specs.declared.programs.Pred.{Pred}
 use Rattle.prog_data.specs.declared.programs.Program.{Program}
 use Rattle.prog_data.specs.declared.tables.Status.{Status}
-use Rattle.prog_data.specs.Goals.{no_pred, ends_in_exit, ends_in_exit_at, without_exit, without_exit_at, is_exit}
-use Rattle.machine_model.specs.Tests.{all_looks, kept_looks, only_looks, checked_at_call, checked_by_note, checked_by_mark}
+use Rattle.prog_data.specs.Goals.{no_pred, ends_in_exit, ends_in_exit_at, without_exit, without_exit_at, is_exit, checked_at_call, checked_by_note}
+use Rattle.machine_model.specs.Tests.{all_looks, kept_looks, only_looks, checked_by_mark}
 use Rattle.machine_model.specs.Instrumented.{is_kept, one_mark, with_exit, with_exit_at, instrumented_pred}
 
 calls_calls : (cs : List ℕ) → flat_map checked_at_call (map check.Calls cs) ≡ cs

@@ -4,7 +4,7 @@ use Rattle.std.specs.Prelude.{find, Option, None, Some, slice_get, option_map}
 use Rattle.std.specs.Option.{option_map_or}
 use Rattle.std.proofs.lemmas.Option.{slice_get-map}
 use Rattle.prog_data.specs.declared.programs.Pred.{Pred}
-use Rattle.std.proofs.Common.{◌≡◌, ℕ, zero, suc, Bool, true, false, List, ◌++◌, refl, ap, sym, ◌∙◌, subst}
+use Rattle.std.proofs.Common.{◌≡◌, ℕ, zero, suc, true, false, List, ◌++◌, refl, ap, sym, ◌∙◌, subst}
 use Rattle.term_core.specs.declared.terms.Term.{Term, out-Term}
 use Rattle.prog_data.specs.declared.programs.Program.{Program}
 use Rattle.prog_data.specs.declared.events.Event.{Event}
@@ -14,11 +14,11 @@ use Rattle.machine_model.specs.Tests.{every_condition, only_kept, kept_checks}
 use Rattle.machine_model.specs.Step.{step}
 use Rattle.machine_model.specs.Run.{steps, then_trace, start_of, Run, RunsBy}
 use Rattle.machine_model.specs.Laws.{Simulates}
-use Rattle.machine_model.specs.Erasure.{HasNoExit}
 use Rattle.machine_model.specs.Instrumented.{instrumented, instrumented_pred, is_kept}
 use Rattle.machine_model.proofs.SoundRuns.{suffices}
 use Rattle.machine_model.proofs.BothWays.{back}
 use Rattle.prog_data.specs.declared.tables.Status.{Status}
+use Rattle.prog_data.specs.Programs.{HasNoExit}
 use Rattle.machine_model.proofs.InstrumentedSteps.{Phases, on, over, Follows, moves, stays, step_follows, States, states, frames, doing, same}
 use Rattle.machine_model.proofs.InstrumentedSteps as rel
 

@@ -1,7 +1,7 @@
 -- The run of an instrumented program by its checks is that of the program with only the kept conditions, but for exits that test nothing.
 use Rattle.std.proofs.Common.{zero, map, arith, ◌≡◌, ℕ, suc, ◌+◌, Bool, true, false, List, [], ◌∷◌, ◌++◌, length, refl, ap, sym, ◌∙◌, subst}
 use Rattle.std.specs.Prelude.{nat_le, not, filter, slice_get, slice_index_or, Option, None, Some, if◌then◌else◌}
-use Rattle.term_core.specs.declared.terms.Term.{Term, out-Term}
+use Rattle.term_core.specs.declared.terms.Term.{Term}
 use Rattle.term_core.specs.declared.terms.Term as term
 use Rattle.term_core.specs.declared.equations.Outcome.TheVariants.{Solved, Clash, Cyclic}
 use Rattle.term_core.specs.Unify.{Stage, Open, Ended, values}
@@ -13,9 +13,8 @@ use Rattle.prog_data.specs.declared.programs.Place.{Place}
 use Rattle.prog_data.specs.declared.programs.Program.{Program}
 use Rattle.prog_data.specs.declared.events.Event.TheVariants as event
 use Rattle.prog_data.specs.declared.events.Ending.{Ending}
-use Rattle.prog_data.specs.declared.events.Ending.TheVariants.{Violated}
 use Rattle.prog_data.specs.declared.events.Ending.TheVariants as ending
-use Rattle.prog_data.specs.Conditions.{kind_of, pre_holds, calls_hold, post_holds, exit_breaks, failure_breaks}
+use Rattle.prog_data.specs.Conditions.{kind_of, pre_holds, calls_hold, exit_breaks, failure_breaks}
 use Rattle.prog_data.specs.Goals.{pred_of, ends_in_exit, without_exit, goal_instance}
 use Rattle.machine_model.specs.State.{Item, Does, CutTo, Exits, Frame, Call, Choice, Resume, Try, Mark, Current, Doing, Solving, Failed, State, Phase, Going, Over, Trace, item_instance, cut, choice_at, exited, exit_mark}
 use Rattle.machine_model.specs.Tests.{Tests, Looks, every_condition, kept_checks, all_looks, only_looks, only_kept}
@@ -24,7 +23,7 @@ use Rattle.std.specs.List.{AllByRecursion}
 use Rattle.std.specs.Prelude.{option_map, ◌==◌}
 use Rattle.term_core.specs.Terms.{higher}
 use Rattle.prog_data.specs.declared.tables.Status.{Status}
-use Rattle.machine_model.specs.Erasure.{HasNoExit}
+use Rattle.prog_data.specs.Programs.{HasNoExit}
 use Rattle.machine_model.specs.Instrumented.{is_kept, has_exit, with_exit, with_exit_at, instrumented, instrumented_pred}
 use Rattle.machine_model.proofs.InstrumentedLooks.{looks_same, body_same, body_ends, pred_at, clause_at}
 use Rattle.machine_model.proofs.ErasureRuns.{no_exit}

@@ -3,7 +3,7 @@ use Rattle.std.proofs.Common.{◌≡◌, ℕ, zero, suc, ◌+◌, ◌<◌, ◌�
 use Rattle.std.proofs.lemmas.Bool.Decides.{nat_tests}
 use Rattle.term_core.specs.declared.terms.Term as term
 use Rattle.std.specs.Prelude.{slice_index_or, nat_le, Option, None, Some, if◌then◌else◌}
-use Rattle.term_core.specs.declared.terms.Term.{Term, out-Term}
+use Rattle.term_core.specs.declared.terms.Term.{Term}
 use Rattle.term_core.specs.declared.equations.Outcome.TheVariants.{Solved, Clash, Cyclic}
 use Rattle.term_core.specs.Unify.{Stage, Open, Ended}
 use Rattle.prog_data.specs.declared.goals.Goal.{Goal, out-Goal}

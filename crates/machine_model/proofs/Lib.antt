@@ -1,10 +1,12 @@
 mod Samples
+mod Parts
 mod Rows
-pub mod OneRun
+mod OneRun
 mod Invariants
-pub mod Ends
+mod Ends
 mod BothWays
 pub mod Continuing
+mod MarkOwners
 mod DropRelation
 mod DropSteps
 mod DropRuns

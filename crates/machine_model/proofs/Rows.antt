@@ -1,7 +1,8 @@
 -- Runs of the small programs, computed.
-use Rattle.std.proofs.Common.{◌≡◌, ℕ, zero, suc, Bool, true, false, List, [], ◌∷◌, map, refl}
-use Rattle.std.specs.Prelude.{ℤ, pos, negsuc, Ok}
-use Rattle.term_core.specs.declared.terms.Term.{Term, Var, Int, Atom, Node, out-Term}
+use Rattle.std.proofs.Common.{◌≡◌, ℕ, zero, suc, Bool, true, false, List, [], ◌∷◌, map, refl, ap}
+use Rattle.std.specs.Prelude.{pos, negsuc, Ok, codes}
+use Rattle.std.specs.Str.{byte}
+use Rattle.term_core.specs.declared.terms.Term.{Term, Atom, Node, out-Term}
 use Rattle.term_core.specs.declared.terms.Term.TheBlock as term_block
 use Rattle.term_core.specs.declared.terms.Term.TheFolds.{fold-Term}
 use Rattle.term_core.proofs.TermFolds as terms
@@ -18,12 +19,14 @@ use Rattle.prog_data.specs.declared.events.Event.{Event}
 use Rattle.prog_data.specs.declared.events.Event.TheVariants.{Out, Answer, Broken}
 use Rattle.prog_data.specs.declared.events.Ending.{Ending}
 use Rattle.prog_data.specs.declared.events.Ending.TheVariants.{NoMore, Bound, Violated, Cyclic, Arithmetic}
-use Rattle.machine_model.specs.State.{Trace, Going, Over}
+use Rattle.machine_model.specs.State.{State, Trace, Going, Over}
+use Rattle.term_core.specs.Printing.{Printed, shown_of}
+use Rattle.machine_model.proofs.Parts.{goes_on}
 use Rattle.machine_model.specs.Tests.{Tests, every_condition, kept_checks, told}
 use Rattle.machine_model.specs.Run.{steps, start_of}
 use Rattle.machine_model.specs.Instrumented.{instrumented}
 use Rattle.term_core.specs.declared.fixed.TheConstants.{PLUS, QUOTIENT, REMAINDER, MODULO}
-use Rattle.machine_model.proofs.Samples.{p, q, f, a, b, number, negative, X, Y, at, two_entries, promised, promised_once, counted, twice, cycle, cycle_or_clash, evaluated, least, one_answer, never_fails, exits_once, control, once, negated, broken_twice}
+use Rattle.machine_model.proofs.Samples.{p, q, f, a, b, number, negative, X, Y, at, two_entries, promised, promised_once, counted, twice, cycle, cycle_or_clash, evaluated, least, one_answer, never_fails, exits_once, control, once, broken_twice, four, divided, chosen, negated_twice, written, negated_in_turn, otherwise, cut_in_condition, cut_in_negation, cut_in_branch, not_cyclic, entered_divisions, one_divided, three_divided, entered_choice, second_choice}
 use denote.Hole.Carrier
 
 -- numbers that wait for a fold so often: with these beside it, an equation of a fold may be used more often than a run needs it
@@ -138,14 +141,49 @@ unfolding term_block.hidden-the_row-Term-0 term_block.shape-the_row-Term-0 term_
 controlled = rw (terms.all_folds, terms_wait) (rw (goals.all_folds, goals_wait) (rw (terms.all_folds, terms_wait) (rw (goals.all_folds, goals_wait) (refl))))
 
 -- a condition is solved once, and the other branch is not taken then
-pub condition_once : Computes 2 (run once 0 (Atom p)) (ends (Out (10 ∷ []) ∷ Answer (Atom p) ∷ []) 0 NoMore)
+pub condition_once : Computes 2 (run once 0 (Atom p)) (ends (Out (byte "\n" ∷ []) ∷ Answer (Atom p) ∷ []) 0 NoMore)
 unfolding term_block.hidden-the_row-Term-0 term_block.shape-the_row-Term-0 term_block.shown-the_row-Term-0 out-Term goal_block.hidden-the_row-Goal-0 goal_block.shape-the_row-Goal-0 goal_block.shown-the_row-Goal-0 out-Goal Carrier.hidden Carrier.shown Carrier.out
 condition_once = rw (terms.all_folds, terms_wait) (rw (goals.all_folds, goals_wait) (rw (terms.all_folds, terms_wait) (rw (goals.all_folds, goals_wait) (refl))))
 
--- a negation holds where its goal fails, and only there
-pub negation : Computes 3 (run negated 0 (Atom p)) (ends (Answer (Atom p) ∷ []) 0 NoMore)
+-- a negation holds where its goal fails, and only there: `once` would end no line
+pub negated_one_way : Computes 3 (run negated_in_turn 0 (Atom p)) (ends (Out (byte "\n" ∷ []) ∷ Answer (Atom p) ∷ []) 0 NoMore)
 unfolding term_block.hidden-the_row-Term-0 term_block.shape-the_row-Term-0 term_block.shown-the_row-Term-0 out-Term goal_block.hidden-the_row-Goal-0 goal_block.shape-the_row-Goal-0 goal_block.shown-the_row-Goal-0 out-Goal Carrier.hidden Carrier.shown Carrier.out
-negation = rw (terms.all_folds, terms_wait) (rw (goals.all_folds, goals_wait) (rw (terms.all_folds, terms_wait) (rw (goals.all_folds, goals_wait) (rw (terms.all_folds, terms_wait) (rw (goals.all_folds, goals_wait) (refl))))))
+negated_one_way = rw (terms.all_folds, terms_wait) (rw (goals.all_folds, goals_wait) (rw (terms.all_folds, terms_wait) (rw (goals.all_folds, goals_wait) (rw (terms.all_folds, terms_wait) (rw (goals.all_folds, goals_wait) (refl))))))
+
+-- where the condition fails the other branch is taken
+pub other_branch : Computes 3 (run otherwise 0 (Atom p)) (ends (Out (byte "\n" ∷ []) ∷ Answer (Atom p) ∷ []) 0 NoMore)
+unfolding term_block.hidden-the_row-Term-0 term_block.shape-the_row-Term-0 term_block.shown-the_row-Term-0 out-Term goal_block.hidden-the_row-Goal-0 goal_block.shape-the_row-Goal-0 goal_block.shown-the_row-Goal-0 out-Goal Carrier.hidden Carrier.shown Carrier.out
+other_branch = rw (terms.all_folds, terms_wait) (rw (goals.all_folds, goals_wait) (rw (terms.all_folds, terms_wait) (rw (goals.all_folds, goals_wait) (rw (terms.all_folds, terms_wait) (rw (goals.all_folds, goals_wait) (refl))))))
+
+-- a cut in a condition is local to it
+pub local_in_condition : Computes 3 (run cut_in_condition 0 (Atom p)) (ends (Answer (Atom p) ∷ Out (byte "\n" ∷ []) ∷ Answer (Atom p) ∷ []) 0 NoMore)
+unfolding term_block.hidden-the_row-Term-0 term_block.shape-the_row-Term-0 term_block.shown-the_row-Term-0 out-Term goal_block.hidden-the_row-Goal-0 goal_block.shape-the_row-Goal-0 goal_block.shown-the_row-Goal-0 out-Goal Carrier.hidden Carrier.shown Carrier.out
+local_in_condition = rw (terms.all_folds, terms_wait) (rw (goals.all_folds, goals_wait) (rw (terms.all_folds, terms_wait) (rw (goals.all_folds, goals_wait) (rw (terms.all_folds, terms_wait) (rw (goals.all_folds, goals_wait) (refl))))))
+
+-- a cut under a negation is local to it
+pub local_in_negation : Computes 3 (run cut_in_negation 0 (Atom p)) (ends (Answer (Atom p) ∷ Out (byte "\n" ∷ []) ∷ Answer (Atom p) ∷ []) 0 NoMore)
+unfolding term_block.hidden-the_row-Term-0 term_block.shape-the_row-Term-0 term_block.shown-the_row-Term-0 out-Term goal_block.hidden-the_row-Goal-0 goal_block.shape-the_row-Goal-0 goal_block.shown-the_row-Goal-0 out-Goal Carrier.hidden Carrier.shown Carrier.out
+local_in_negation = rw (terms.all_folds, terms_wait) (rw (goals.all_folds, goals_wait) (rw (terms.all_folds, terms_wait) (rw (goals.all_folds, goals_wait) (rw (terms.all_folds, terms_wait) (rw (goals.all_folds, goals_wait) (refl))))))
+
+-- a cut in a branch is the clause's
+pub cut_of_branch : Computes 3 (run cut_in_branch 0 (Atom p)) (ends (Answer (Atom p) ∷ []) 0 NoMore)
+unfolding term_block.hidden-the_row-Term-0 term_block.shape-the_row-Term-0 term_block.shown-the_row-Term-0 out-Term goal_block.hidden-the_row-Goal-0 goal_block.shape-the_row-Goal-0 goal_block.shown-the_row-Goal-0 out-Goal Carrier.hidden Carrier.shown Carrier.out
+cut_of_branch = rw (terms.all_folds, terms_wait) (rw (goals.all_folds, goals_wait) (rw (terms.all_folds, terms_wait) (rw (goals.all_folds, goals_wait) (rw (terms.all_folds, terms_wait) (rw (goals.all_folds, goals_wait) (refl))))))
+
+-- `X \\= f(X)` ends as a cycle
+pub cyclic_under_negation : Computes 4 (run not_cyclic 0 (Atom p)) (ends [] 0 (Cyclic (at 2)))
+unfolding term_block.hidden-the_row-Term-0 term_block.shape-the_row-Term-0 term_block.shown-the_row-Term-0 out-Term goal_block.hidden-the_row-Goal-0 goal_block.shape-the_row-Goal-0 goal_block.shown-the_row-Goal-0 out-Goal Carrier.hidden Carrier.shown Carrier.out
+cyclic_under_negation = rw (terms.all_folds, terms_wait) (rw (goals.all_folds, goals_wait) (rw (terms.all_folds, terms_wait) (rw (goals.all_folds, goals_wait) (rw (terms.all_folds, terms_wait) (rw (goals.all_folds, goals_wait) (rw (terms.all_folds, terms_wait) (rw (goals.all_folds, goals_wait) (refl))))))))
+
+-- `p(X)`: a negation binds nothing
+pub bound_by_none : Computes 6 (run negated_twice 0 (one p X)) (ends (Answer (one p Y) ∷ []) 0 NoMore)
+unfolding term_block.hidden-the_row-Term-0 term_block.shape-the_row-Term-0 term_block.shown-the_row-Term-0 out-Term goal_block.hidden-the_row-Goal-0 goal_block.shape-the_row-Goal-0 goal_block.shown-the_row-Goal-0 out-Goal Carrier.hidden Carrier.shown Carrier.out
+bound_by_none = rw (terms.all_folds, terms_wait) (rw (goals.all_folds, goals_wait) (rw (terms.all_folds, terms_wait) (rw (goals.all_folds, goals_wait) (rw (terms.all_folds, terms_wait) (rw (goals.all_folds, goals_wait) (rw (terms.all_folds, terms_wait) (rw (goals.all_folds, goals_wait) (rw (terms.all_folds, terms_wait) (rw (goals.all_folds, goals_wait) (rw (terms.all_folds, terms_wait) (rw (goals.all_folds, goals_wait) (refl))))))))))))
+
+-- `p(X)`: each clause writes, and the exit of the second breaks the condition
+pub written_before : Computes 7 (run written 0 (one p X)) (ends (Out (codes "one") ∷ Out (byte "\n" ∷ []) ∷ Answer (one p (number 1)) ∷ Out (codes "two") ∷ Out (byte "\n" ∷ []) ∷ []) 3 (Violated 0))
+unfolding term_block.hidden-the_row-Term-0 term_block.shape-the_row-Term-0 term_block.shown-the_row-Term-0 out-Term goal_block.hidden-the_row-Goal-0 goal_block.shape-the_row-Goal-0 goal_block.shown-the_row-Goal-0 out-Goal Carrier.hidden Carrier.shown Carrier.out
+written_before = rw (terms.all_folds, terms_wait, Printed, shown_of) (rw (goals.all_folds, goals_wait, Printed, shown_of) (rw (terms.all_folds, terms_wait, Printed, shown_of) (rw (goals.all_folds, goals_wait, Printed, shown_of) (rw (terms.all_folds, terms_wait, Printed, shown_of) (rw (goals.all_folds, goals_wait, Printed, shown_of) (rw (terms.all_folds, terms_wait, Printed, shown_of) (rw (goals.all_folds, goals_wait, Printed, shown_of) (rw (terms.all_folds, terms_wait, Printed, shown_of) (rw (goals.all_folds, goals_wait, Printed, shown_of) (rw (terms.all_folds, terms_wait, Printed, shown_of) (rw (goals.all_folds, goals_wait, Printed, shown_of) (rw (terms.all_folds, terms_wait, Printed, shown_of) (rw (goals.all_folds, goals_wait, Printed, shown_of) (refl))))))))))))))
 
 -- where it does not, the first ends the run
 pub stopped : Computes 2 (run broken_twice 0 (Atom p)) (ends [] 2 (Violated 0))
@@ -166,3 +204,72 @@ kept = rw (terms.all_folds, terms_wait) (rw (goals.all_folds, goals_wait) (rw (t
 pub dropped : Computes 3 (run_by (kept_checks (instrumented promised (status.Checked ∷ []))) (instrumented promised (status.Checked ∷ [])) 0 (one p (number 1)) 1000) (ends (Answer (one p (number 1)) ∷ []) 0 NoMore)
 unfolding term_block.hidden-the_row-Term-0 term_block.shape-the_row-Term-0 term_block.shown-the_row-Term-0 out-Term goal_block.hidden-the_row-Goal-0 goal_block.shape-the_row-Goal-0 goal_block.shown-the_row-Goal-0 out-Goal Carrier.hidden Carrier.shown Carrier.out
 dropped = rw (terms.all_folds, terms_wait) (rw (goals.all_folds, goals_wait) (rw (terms.all_folds, terms_wait) (rw (goals.all_folds, goals_wait) (rw (terms.all_folds, terms_wait) (rw (goals.all_folds, goals_wait) (refl))))))
+
+abbrev pub goes : State → Trace
+goes s = record { events = []; tests = 0; phase = Going s }
+
+-- the steps of a run from a state on
+abbrev pub from : Program → ℕ → State → Trace
+from program k s = steps (every_condition program) program 1000 k (Going s)
+
+-- the trace that is computed
+abbrev pub first_of : Trace → List Trace → Trace
+first_of other [] = other
+first_of other (t ∷ ts) = t
+
+pub computed : (n : ℕ) (found wanted : Trace) → Computes n found wanted → found ≡ wanted
+computed n found wanted c = ap (λ x. first_of found x.0) c
+
+-- the clause is entered
+pub divisions_entered : Computes 5 (from divided 5 (start_of 0 (one p X))) (goes entered_divisions)
+unfolding term_block.hidden-the_row-Term-0 term_block.shape-the_row-Term-0 term_block.shown-the_row-Term-0 out-Term goal_block.hidden-the_row-Goal-0 goal_block.shape-the_row-Goal-0 goal_block.shown-the_row-Goal-0 out-Goal Carrier.hidden Carrier.shown Carrier.out
+divisions_entered = rw (terms.all_folds, terms_wait) (rw (goals.all_folds, goals_wait) (rw (terms.all_folds, terms_wait) (rw (goals.all_folds, goals_wait) (rw (terms.all_folds, terms_wait) (rw (goals.all_folds, goals_wait) (rw (terms.all_folds, terms_wait) (rw (goals.all_folds, goals_wait) (rw (terms.all_folds, terms_wait) (rw (goals.all_folds, goals_wait) (refl))))))))))
+
+-- the first division
+pub first_division : Computes 5 (from divided 5 entered_divisions) (goes one_divided)
+unfolding term_block.hidden-the_row-Term-0 term_block.shape-the_row-Term-0 term_block.shown-the_row-Term-0 out-Term goal_block.hidden-the_row-Goal-0 goal_block.shape-the_row-Goal-0 goal_block.shown-the_row-Goal-0 out-Goal Carrier.hidden Carrier.shown Carrier.out
+first_division = rw (terms.all_folds, terms_wait) (rw (goals.all_folds, goals_wait) (rw (terms.all_folds, terms_wait) (rw (goals.all_folds, goals_wait) (rw (terms.all_folds, terms_wait) (rw (goals.all_folds, goals_wait) (rw (terms.all_folds, terms_wait) (rw (goals.all_folds, goals_wait) (rw (terms.all_folds, terms_wait) (rw (goals.all_folds, goals_wait) (refl))))))))))
+
+-- the second and the third
+pub more_divisions : Computes 6 (from divided 10 one_divided) (goes three_divided)
+unfolding term_block.hidden-the_row-Term-0 term_block.shape-the_row-Term-0 term_block.shown-the_row-Term-0 out-Term goal_block.hidden-the_row-Goal-0 goal_block.shape-the_row-Goal-0 goal_block.shown-the_row-Goal-0 out-Goal Carrier.hidden Carrier.shown Carrier.out
+more_divisions = rw (terms.all_folds, terms_wait) (rw (goals.all_folds, goals_wait) (rw (terms.all_folds, terms_wait) (rw (goals.all_folds, goals_wait) (rw (terms.all_folds, terms_wait) (rw (goals.all_folds, goals_wait) (rw (terms.all_folds, terms_wait) (rw (goals.all_folds, goals_wait) (rw (terms.all_folds, terms_wait) (rw (goals.all_folds, goals_wait) (rw (terms.all_folds, terms_wait) (rw (goals.all_folds, goals_wait) (refl))))))))))))
+
+-- the last, the answer and the end
+pub last_division : Computes 5 (from divided 80 three_divided) (ends (Answer (one p (four (negative 2) (negative 0) (number 1) (negative 0))) ∷ []) 0 NoMore)
+unfolding term_block.hidden-the_row-Term-0 term_block.shape-the_row-Term-0 term_block.shown-the_row-Term-0 out-Term goal_block.hidden-the_row-Goal-0 goal_block.shape-the_row-Goal-0 goal_block.shown-the_row-Goal-0 out-Goal Carrier.hidden Carrier.shown Carrier.out
+last_division = rw (terms.all_folds, terms_wait) (rw (goals.all_folds, goals_wait) (rw (terms.all_folds, terms_wait) (rw (goals.all_folds, goals_wait) (rw (terms.all_folds, terms_wait) (rw (goals.all_folds, goals_wait) (rw (terms.all_folds, terms_wait) (rw (goals.all_folds, goals_wait) (rw (terms.all_folds, terms_wait) (rw (goals.all_folds, goals_wait) (refl))))))))))
+
+-- `p(X)`: four divisions, one after the other
+pub divisions : run divided 0 (one p X) ≡ ends (Answer (one p (four (negative 2) (negative 0) (number 1) (negative 0))) ∷ []) 0 NoMore
+divisions =
+    let wanted = ends (Answer (one p (four (negative 2) (negative 0) (number 1) (negative 0))) ∷ []) 0 NoMore in
+    let what = every_condition divided in
+    goes_on what divided 1000 5 95 (Going (start_of 0 (one p X))) (Going entered_divisions) wanted (computed 5 (from divided 5 (start_of 0 (one p X))) (goes entered_divisions) divisions_entered)
+    (goes_on what divided 1000 5 90 (Going entered_divisions) (Going one_divided) wanted (computed 5 (from divided 5 entered_divisions) (goes one_divided) first_division)
+    (goes_on what divided 1000 10 80 (Going one_divided) (Going three_divided) wanted (computed 6 (from divided 10 one_divided) (goes three_divided) more_divisions)
+    (computed 5 (from divided 80 three_divided) wanted last_division)))
+
+-- the clause is entered
+pub choice_entered : Computes 4 (from chosen 5 (start_of 0 (one p X))) (goes entered_choice)
+unfolding term_block.hidden-the_row-Term-0 term_block.shape-the_row-Term-0 term_block.shown-the_row-Term-0 out-Term goal_block.hidden-the_row-Goal-0 goal_block.shape-the_row-Goal-0 goal_block.shown-the_row-Goal-0 out-Goal Carrier.hidden Carrier.shown Carrier.out
+choice_entered = rw (terms.all_folds, terms_wait) (rw (goals.all_folds, goals_wait) (rw (terms.all_folds, terms_wait) (rw (goals.all_folds, goals_wait) (rw (terms.all_folds, terms_wait) (rw (goals.all_folds, goals_wait) (rw (terms.all_folds, terms_wait) (rw (goals.all_folds, goals_wait) (refl))))))))
+
+-- 1 is not greater than 1
+pub first_choice : Computes 5 (from chosen 12 entered_choice) (goes second_choice)
+unfolding term_block.hidden-the_row-Term-0 term_block.shape-the_row-Term-0 term_block.shown-the_row-Term-0 out-Term goal_block.hidden-the_row-Goal-0 goal_block.shape-the_row-Goal-0 goal_block.shown-the_row-Goal-0 out-Goal Carrier.hidden Carrier.shown Carrier.out
+first_choice = rw (terms.all_folds, terms_wait) (rw (goals.all_folds, goals_wait) (rw (terms.all_folds, terms_wait) (rw (goals.all_folds, goals_wait) (rw (terms.all_folds, terms_wait) (rw (goals.all_folds, goals_wait) (rw (terms.all_folds, terms_wait) (rw (goals.all_folds, goals_wait) (rw (terms.all_folds, terms_wait) (rw (goals.all_folds, goals_wait) (refl))))))))))
+
+-- 2 is, and the cut takes the last branch off
+pub last_choice : Computes 6 (from chosen 83 second_choice) (ends (Answer (one p (number 2)) ∷ []) 0 NoMore)
+unfolding term_block.hidden-the_row-Term-0 term_block.shape-the_row-Term-0 term_block.shown-the_row-Term-0 out-Term goal_block.hidden-the_row-Goal-0 goal_block.shape-the_row-Goal-0 goal_block.shown-the_row-Goal-0 out-Goal Carrier.hidden Carrier.shown Carrier.out
+last_choice = rw (terms.all_folds, terms_wait) (rw (goals.all_folds, goals_wait) (rw (terms.all_folds, terms_wait) (rw (goals.all_folds, goals_wait) (rw (terms.all_folds, terms_wait) (rw (goals.all_folds, goals_wait) (rw (terms.all_folds, terms_wait) (rw (goals.all_folds, goals_wait) (rw (terms.all_folds, terms_wait) (rw (goals.all_folds, goals_wait) (rw (terms.all_folds, terms_wait) (rw (goals.all_folds, goals_wait) (refl))))))))))))
+
+-- `p(X)`: a disjunction, an if-then-else and a cut
+pub choices : run chosen 0 (one p X) ≡ ends (Answer (one p (number 2)) ∷ []) 0 NoMore
+choices =
+    let wanted = ends (Answer (one p (number 2)) ∷ []) 0 NoMore in
+    let what = every_condition chosen in
+    goes_on what chosen 1000 5 95 (Going (start_of 0 (one p X))) (Going entered_choice) wanted (computed 4 (from chosen 5 (start_of 0 (one p X))) (goes entered_choice) choice_entered)
+    (goes_on what chosen 1000 12 83 (Going entered_choice) (Going second_choice) wanted (computed 5 (from chosen 12 entered_choice) (goes second_choice) first_choice)
+    (computed 6 (from chosen 83 second_choice) wanted last_choice))

@@ -1,14 +1,15 @@
 -- With sound statuses no run is ended by a condition that is checked.
-use Rattle.std.proofs.Common.{◌≡◌, ℕ, zero, suc, Bool, true, false, List, refl, ap, sym, ◌∙◌, subst, true≢false}
+use Rattle.std.proofs.Common.{◌≡◌, ℕ, zero, suc, true, false, List, refl, ap, sym, ◌∙◌, subst, true≢false}
 use Rattle.std.specs.Prelude.{Option, None, Some, not, slice_get}
 use Rattle.term_core.specs.declared.terms.Term.{Term, out-Term}
+use Rattle.term_core.specs.Shapes.{parts_of}
 use Rattle.prog_data.specs.declared.events.Event.{Event}
 use Rattle.prog_data.specs.declared.events.Ending.{Ending}
 use Rattle.prog_data.specs.declared.events.Ending.TheVariants as ending
 use Rattle.prog_data.specs.declared.programs.Program.{Program}
 use Rattle.prog_data.specs.declared.tables.Status.{Status}
 use Rattle.prog_data.specs.declared.tables.Status.TheVariants as status
-use Rattle.prog_data.specs.Goals.{called_by, meets_entry, parts_of}
+use Rattle.prog_data.specs.Goals.{called_by, meets_entry}
 use Rattle.machine_model.specs.State.{State, Phase, Going, Over}
 use Rattle.machine_model.specs.Tests.{Tests, every_condition, only_kept}
 use Rattle.machine_model.specs.Step.{step}

@@ -1,11 +1,10 @@
 -- The program without its conditions.
 -- The headline does not rest on this file.
-use Rattle.std.specs.Prelude.{◌≡◌, ℕ, false, [], map}
-use Rattle.std.specs.List.{AllByRecursion}
+use Rattle.std.specs.Prelude.{[], map}
 use Rattle.prog_data.specs.declared.programs.Clause.{Clause}
 use Rattle.prog_data.specs.declared.programs.Pred.{Pred}
 use Rattle.prog_data.specs.declared.programs.Program.{Program}
-use Rattle.prog_data.specs.Goals.{without_exit, ends_in_exit, pred_of}
+use Rattle.prog_data.specs.Goals.{without_exit}
 
 -- its body loses the Exit that it is or ends in
 abbrev pub erase_clause : Clause → Clause
@@ -18,7 +17,3 @@ erase_pred p = record p { clauses = map erase_clause p.clauses; conds = []; call
 -- a program without conditions, claims, call checks and Exit; its entries stay
 abbrev pub erase : Program → Program
 erase program = record program { preds = map erase_pred program.preds; conds = []; claims = [] }
-
--- no body is Exit or ends in it, as in a linked program
-abbrev pub HasNoExit : Program → Type 0
-HasNoExit program = (p : ℕ) → AllByRecursion (λ c. ends_in_exit c.body ≡ false) (pred_of program p).clauses

@@ -2,6 +2,7 @@
 -- The headline does not rest on this file.
 use Rattle.std.specs.Prelude.{◌≡◌, ◌≤◌, ◌↔◌, ℕ, ◌+◌, Bool, List, [], ◌∷◌, ◌++◌, filter, not, Some, true, false}
 use Rattle.term_core.specs.declared.terms.Term.{Term, out-Term}
+use Rattle.term_core.specs.Shapes.{parts_of}
 use Rattle.prog_data.specs.declared.events.Event.{Event}
 use Rattle.prog_data.specs.declared.events.Event.TheVariants as event
 use Rattle.prog_data.specs.declared.events.Ending.{Ending}
@@ -13,10 +14,11 @@ use Rattle.machine_model.specs.Tests.{Tests}
 use Rattle.machine_model.specs.Step.{step}
 use Rattle.machine_model.specs.Continues.{Left, at_phase, left_after, Continues, Leads}
 use Rattle.machine_model.specs.Run.{RunsFrom, Reaches, Run, KeptRun, CheckRun, RunAll}
-use Rattle.machine_model.specs.Erasure.{erase, HasNoExit}
+use Rattle.machine_model.specs.Erasure.{erase}
 use Rattle.machine_model.specs.Points.{Sound}
 use Rattle.machine_model.specs.Instrumented.{instrumented, is_kept}
-use Rattle.prog_data.specs.Goals.{called_by, parts_of, meets_entry}
+use Rattle.prog_data.specs.Goals.{called_by, meets_entry}
+use Rattle.prog_data.specs.Programs.{HasNoExit}
 
 -- a run has one list of events, one number of tests and one ending
 abbrev pub OneRun : Tests → Program → ℕ → Type 0

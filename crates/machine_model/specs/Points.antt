@@ -2,6 +2,7 @@
 -- The headline does not rest on this file.
 use Rattle.std.specs.Prelude.{◌≡◌, ◌<◌, ℕ, Bool, true, false, List, ◌∷◌, map, slice_get, Option, Some, Contains, IsTrue}
 use Rattle.term_core.specs.declared.terms.Term.{Term, out-Term}
+use Rattle.term_core.specs.Shapes.{parts_of}
 use Rattle.prog_data.specs.declared.goals.Goal.{out-Goal}
 use Rattle.prog_data.specs.declared.goals.Goal.TheOpen.{Call as CallGoal}
 use Rattle.prog_data.specs.declared.conditions.CondKind.{CondKind}
@@ -13,7 +14,7 @@ use Rattle.prog_data.specs.declared.tables.Status.TheVariants as status
 use Rattle.prog_data.specs.declared.tables.Table.{Table}
 use Rattle.prog_data.specs.Values.{seen, AreIn}
 use Rattle.prog_data.specs.Conditions.{kind_of, calls_hold, post_holds}
-use Rattle.prog_data.specs.Goals.{called_by, parts_of, pred_of, meets_entry}
+use Rattle.prog_data.specs.Goals.{called_by, pred_of, meets_entry}
 use Rattle.machine_model.specs.State.{Item, Does, Exits, Frame, Choice, Mark, Doing, Failed, State}
 use Rattle.machine_model.specs.Tests.{Tests, every_condition}
 use Rattle.machine_model.specs.Step.{mark_of}

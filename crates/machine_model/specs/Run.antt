@@ -2,12 +2,13 @@
 use Rattle.std.specs.Prelude.{◌≡◌, ℕ, zero, suc, ◌+◌, Bool, List, [], ◌∷◌, ◌++◌, Some}
 use Rattle.term_core.specs.declared.terms.Term.{Term, out-Term}
 use Rattle.term_core.specs.Terms.{above}
+use Rattle.term_core.specs.Shapes.{parts_of}
 use Rattle.prog_data.specs.declared.goals.Goal as goal
 use Rattle.prog_data.specs.declared.programs.Place.{Place}
 use Rattle.prog_data.specs.declared.programs.Program.{Program}
 use Rattle.prog_data.specs.declared.events.Event.{Event}
 use Rattle.prog_data.specs.declared.events.Ending.{Ending}
-use Rattle.prog_data.specs.Goals.{called_by, parts_of}
+use Rattle.prog_data.specs.Goals.{called_by}
 use Rattle.machine_model.specs.State.{Does, Doing, State, Phase, Going, Over, Trace}
 use Rattle.machine_model.specs.Tests.{Tests, every_condition, only_kept, kept_checks, told}
 use Rattle.machine_model.specs.Step.{step, quietly}

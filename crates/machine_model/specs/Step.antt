@@ -1,6 +1,7 @@
 -- One step of a run.
 use Rattle.std.specs.Prelude.{ℕ, suc, ◌+◌, nat_le, Bool, true, false, not, List, [], ◌∷◌, ◌++◌, map, length, filter, slice_get, slice_index_or, if◌then◌else◌, Option, None, Some, ℤ, int_lt, int_le, Ok, Err}
 use Rattle.std.specs.Ordering.{int_eq}
+use Rattle.std.specs.Str.{byte}
 use Rattle.term_core.specs.declared.terms.Term.{Term, out-Term}
 use Rattle.term_core.specs.declared.terms.Term as term
 use Rattle.term_core.specs.declared.terms.Term.TheOpen as layer
@@ -8,6 +9,7 @@ use Rattle.term_core.specs.declared.equations.Outcome.TheVariants.{Solved, Clash
 use Rattle.term_core.specs.Terms.{higher, rename, numbered, same, is_ground, is_variable}
 use Rattle.term_core.specs.Unify.{Stage, Open, Ended, pairs, solve, values}
 use Rattle.term_core.specs.Printing.{Printed}
+use Rattle.term_core.specs.Shapes.{is_atom}
 use Rattle.prog_data.specs.declared.goals.Goal.{Goal, out-Goal}
 use Rattle.prog_data.specs.declared.goals.Goal as goal
 use Rattle.prog_data.specs.declared.goals.Goal.TheOpen.{Goal-F, True, Fail, Cut, Call as CallGoal, Builtin as BuiltinGoal, Conj, Disj, IfElse, Not, Exit}
@@ -58,13 +60,8 @@ abbrev pub is_integer : layer.Term-F Term → Bool
 is_integer (layer.Int n) = true
 is_integer other = false
 
--- whether a term is an atom
-abbrev pub is_atom : layer.Term-F Term → Bool
-is_atom (layer.Atom a) = true
-is_atom other = false
-
 module _ (program : Program) where
-  -- what a built-in does, by its first two arguments
+  -- what a built-in does, by its first two arguments; one that is not there counts as `[]`
   abbrev pub effect : Builtin → Term → Term → Effect
   effect builtin.Unify a b = Equates a b
   effect builtin.NotUnify a b = Becomes (goal.Not (goal.Builtin builtin.Unify (a ∷ b ∷ [])))
@@ -81,7 +78,7 @@ module _ (program : Program) where
   effect builtin.Atom a b = truth (is_atom (out-Term a))
   effect builtin.Write a b = Writes (Printed program.names program.ops false (numbered a))
   effect builtin.Writeq a b = Writes (Printed program.names program.ops true (numbered a))
-  effect builtin.Nl a b = Writes (10 ∷ [])
+  effect builtin.Nl a b = Writes (byte "\n" ∷ [])
   effect (builtin.Belongs n) a b = truth (belongs program.grammar a n)
   effect builtin.IsVar a b = truth (is_variable (out-Term a))
   effect builtin.IsNonvar a b = truth (not (is_variable (out-Term a)))
@@ -114,7 +111,7 @@ abbrev pub finding : Bool → Finding
 finding true = Holds
 finding false = Breaks
 
--- a test that counts so much and finds this of a condition, before what comes after it: a broken condition ends the run or is told
+-- a test that counts so much and finds this of a condition, before what comes after it: a broken condition ends the run or is told, and one that is not known within the bound ends it
 abbrev pub after_test : (stops : Bool) → (counts : ℕ) → (cond : ℕ) → Finding → Trace → Trace
 after_test stops counts c Holds next = record next { tests = counts + next.tests }
 after_test true counts c Breaks next = record { events = []; tests = counts; phase = Over (ending.Violated c) }

@@ -1,12 +1,12 @@
 -- What a run tests: all the conditions of a program, or the checks that an instrumented one keeps.
-use Rattle.std.specs.Prelude.{ℕ, Bool, true, false, List, [], ◌∷◌, filter, flat_map}
+use Rattle.std.specs.Prelude.{ℕ, Bool, true, false, List, [], filter, flat_map}
 use Rattle.prog_data.specs.declared.programs.Check.{Check}
 use Rattle.prog_data.specs.declared.programs.Check.TheVariants as check
 use Rattle.prog_data.specs.declared.goals.Goal.{Goal}
 use Rattle.prog_data.specs.declared.programs.Pred.{Pred}
 use Rattle.prog_data.specs.declared.programs.Program.{Program}
 use Rattle.prog_data.specs.Conditions.{kind_of, is_calls, is_success, is_comp}
-use Rattle.prog_data.specs.Goals.{ends_in_exit}
+use Rattle.prog_data.specs.Goals.{ends_in_exit, checked_at_call, checked_by_note}
 
 -- the conditions that a call of a predicate looks at, by number
 pub record Looks : Type 0 where
@@ -32,16 +32,6 @@ all_looks program pred = record {
   notes = filter (λ c. is_success (kind_of program c)) pred.conds;
   marks = filter (λ c. is_comp (kind_of program c)) pred.conds;
 }
-
--- the condition of a check Calls
-abbrev pub checked_at_call : Check → List ℕ
-checked_at_call (check.Calls c) = c ∷ []
-checked_at_call other = []
-
--- the condition of a check Note
-abbrev pub checked_by_note : Check → List ℕ
-checked_by_note (check.Note c) = c ∷ []
-checked_by_note other = []
 
 -- the conditions of a check Mark
 abbrev pub checked_by_mark : Check → List ℕ

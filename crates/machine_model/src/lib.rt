@@ -6,6 +6,7 @@ ghost use Rattle.prog_data.specs.declared.tables.Status.{Status};
 ghost use Rattle.prog_data.specs.declared.programs.Program.{Program};
 ghost use Rattle.machine_model.specs.State.{State};
 ghost use Rattle.machine_model.specs.Tests.{Tests};
+ghost use Rattle.machine_model.specs.Marks.{MarksOwned};
 ghost use Rattle.machine_model.specs.Laws.{OneRun, Ends, Erases, ToldErases, ErasesInstrumented, Drops, Suffices, Simulates, CallsBounded, LeftLaws};
 
 /// A run has one list of events, one number of tests and one ending.
@@ -56,4 +57,9 @@ pub fn kept_tests_law()
 /// Where the statuses are sound, the instrumented program's run by its checks is the program's run.
 pub fn simulation_law()
     ensures { (program : Program) (statuses : List Status) → Simulates program statuses }
+{}
+
+/// The mark that an exit finds is one of a call of its predicate.
+pub fn marks_law()
+    ensures { (what : Tests) (program : Program) → MarksOwned what program }
 {}

@@ -12,6 +12,7 @@ use Rattle.term_core.specs.Terms.{instance, instance_step, above}
 use Rattle.term_core.specs.declared.terms.Term.{Term, out-Term}
 use Rattle.term_core.specs.declared.terms.Term.TheVariants.{outs-Var, outs-Int, outs-Atom, outs-Node}
 use Rattle.term_core.proofs.TermFolds.{fold-Atom as term-Atom, ind_terms}
+use Rattle.term_core.specs.Shapes.{is_atom}
 use Rattle.prog_data.specs.declared.conditions.Cond.{Cond}
 use Rattle.prog_data.specs.declared.goals.Builtin.{Builtin as BuiltinName}
 use Rattle.prog_data.specs.declared.goals.Builtin.TheVariants as builtin
@@ -25,7 +26,7 @@ use Rattle.prog_data.specs.declared.programs.Clause.{Clause}
 use Rattle.prog_data.specs.declared.programs.Pred.{Pred}
 use Rattle.prog_data.specs.declared.programs.Program.{Program}
 use Rattle.prog_data.specs.Goals.{goal_instance, goal_instance_step, is_exit, ends_in_exit_at, without_exit, without_exit_at, no_pred, pred_of}
-use Rattle.prog_data.specs.Ranges.{is_name_of, is_term_of, is_atom, is_type_test, is_builtin_of, is_call_of, goal_step, is_goal_of, is_body_of, is_clause_of, is_pred_of}
+use Rattle.prog_data.specs.Ranges.{is_name_of, is_term_of, is_type_test, is_builtin_of, is_call_of, goal_step, is_goal_of, is_body_of, is_clause_of, is_pred_of}
 use Rattle.prog_data.specs.Programs.{with_names, IsPred, IsCond, is_named_rule, is_claim_of, IsProgram}
 use Rattle.prog_data.specs.RangeLaws.{AreTermsOf, RangesAreKept}
 use Rattle.prog_data.proofs.GoalFolds.{ind_goals, fold-True, fold-Fail, fold-Cut, fold-Call, fold-Builtin, fold-Conj, fold-Disj, fold-IfElse, fold-Not, fold-Exit}

@@ -1,5 +1,5 @@
 -- Goals, clauses and calls.
-use Rattle.std.specs.Prelude.{ℕ, ◌==◌, Bool, true, false, ◌&&◌, List, [], map, length, slice_get, slice_index_or, Option, find, if◌then◌else◌}
+use Rattle.std.specs.Prelude.{ℕ, ◌==◌, Bool, true, false, ◌&&◌, List, [], ◌∷◌, map, length, slice_get, slice_index_or, Option, find, if◌then◌else◌}
 use Rattle.std.specs.List.{list_any}
 use Rattle.std.specs.Option.{option_map_or}
 use Rattle.term_core.specs.declared.terms.Term.{Term, out-Term}
@@ -9,6 +9,8 @@ use Rattle.prog_data.specs.declared.goals.Goal.{Goal, out-Goal}
 use Rattle.prog_data.specs.declared.goals.Goal as goal
 use Rattle.prog_data.specs.declared.goals.Goal.TheOpen.{Goal-F, True, Fail, Cut, Call, Builtin, Conj, Disj, IfElse, Not, Exit}
 use Rattle.prog_data.specs.declared.goals.Goal.TheFolds.{fold-Goal}
+use Rattle.prog_data.specs.declared.programs.Check.{Check}
+use Rattle.prog_data.specs.declared.programs.Check.TheVariants as check
 use Rattle.prog_data.specs.declared.programs.Pred.{Pred}
 use Rattle.prog_data.specs.declared.programs.Program.{Program}
 use Rattle.prog_data.specs.Conditions.{all_hold}
@@ -63,11 +65,6 @@ no_pred = record { «module» = 0; name = 0; arity = 0; clauses = []; conds = []
 abbrev pub pred_of : Program → ℕ → Pred
 pred_of program p = slice_index_or program.preds p no_pred
 
--- the parts of a compound, and none of another term
-abbrev pub parts_of : layer.Term-F Term → List Term
-parts_of (layer.Node f ts) = ts
-parts_of other = []
-
 -- whether a term is a call of the predicate: it has its name and as many arguments
 abbrev pub calls_pred : Pred → layer.Term-F Term → Bool
 calls_pred pred (layer.Atom a) = (a == pred.name) && (pred.arity == 0)
@@ -85,3 +82,15 @@ called_by program query = find (is_called program query) program.exports
 -- whether a call of the predicate with these arguments meets one of its entries
 abbrev pub meets_entry : Program → ℕ → List Term → Bool
 meets_entry program p args = list_any (λ e. (e.pred == p) && all_hold program.grammar args e.pre) program.entries
+
+-- call checks
+
+-- the condition of a check Calls
+abbrev pub checked_at_call : Check → List ℕ
+checked_at_call (check.Calls c) = c ∷ []
+checked_at_call other = []
+
+-- the condition of a check Note
+abbrev pub checked_by_note : Check → List ℕ
+checked_by_note (check.Note c) = c ∷ []
+checked_by_note other = []

@@ -1,4 +1,5 @@
 -- Which programs are in range, and which are as the linker makes them.
+-- The headline does not rest on this file.
 use Rattle.std.specs.Prelude.{◌≡◌, ◌<◌, ◌≤◌, ℕ, ◌==◌, nat_lt, nat_eq, Bool, true, false, ◌&&◌, not, List, [], ◌∷◌, map, filter, flat_map, length, drop, slice_get, Some}
 use Rattle.std.specs.List.{list_any, list_all, AllByRecursion}
 use Rattle.term_core.specs.Standard.{standard}
@@ -12,7 +13,7 @@ use Rattle.prog_data.specs.declared.programs.Entry.{Entry}
 use Rattle.prog_data.specs.declared.programs.Pred.{Pred}
 use Rattle.prog_data.specs.declared.programs.Program.{Program}
 use Rattle.prog_data.specs.Conditions.{kind_of, is_calls, is_success, is_comp}
-use Rattle.prog_data.specs.Goals.{pred_of, ends_in_exit}
+use Rattle.prog_data.specs.Goals.{pred_of, ends_in_exit, checked_at_call, checked_by_note}
 use Rattle.prog_data.specs.GrammarRange.{IsGrammar}
 use Rattle.prog_data.specs.Ranges.{is_name_of, is_place_of, is_pred_of, is_cond_of, is_clause_of, is_kind_of, are_props_of}
 
@@ -26,16 +27,6 @@ rises [] = true
 rises (n ∷ ns) = list_all (nat_lt n) ns && rises ns
 
 -- call checks
-
--- the condition of a check Calls
-abbrev pub checked_at_call : Check → List ℕ
-checked_at_call (Calls c) = c ∷ []
-checked_at_call other = []
-
--- the condition of a check Note
-abbrev pub checked_by_note : Check → List ℕ
-checked_by_note (Note c) = c ∷ []
-checked_by_note other = []
 
 -- the list of conditions of a check Mark
 abbrev pub marked_by : Check → List (List ℕ)
@@ -107,7 +98,11 @@ pub record IsProgram (program : Program) : Type 0 where
   pub exports : list_all (is_pred_of program) program.exports ≡ true
   pub entries : list_all (is_entry_of program) program.entries ≡ true
 
+-- no body is an exit or ends in one, as in a linked program
+abbrev pub HasNoExit : Program → Type 0
+HasNoExit program = (p : ℕ) → AllByRecursion (λ clause. ends_in_exit clause.body ≡ false) (pred_of program p).clauses
+
 -- a program as the linker makes it: it has no call checks, and no body is an exit or ends in one
 pub record IsLinked (program : Program) : Type 0 where
   pub no_checks : (p : ℕ) → (pred_of program p).call_checks ≡ []
-  pub no_exit : (p : ℕ) → AllByRecursion (λ clause. ends_in_exit clause.body ≡ false) (pred_of program p).clauses
+  pub no_exit : HasNoExit program

@@ -6,6 +6,7 @@ use Rattle.term_core.specs.declared.terms.Term.{Term, out-Term}
 use Rattle.term_core.specs.declared.terms.Term.TheOpen as layer
 use Rattle.term_core.specs.Ranges.{has_names}
 use Rattle.term_core.specs.Terms.{above}
+use Rattle.term_core.specs.Shapes.{is_atom}
 use Rattle.prog_data.specs.declared.goals.Goal.{Goal}
 use Rattle.prog_data.specs.declared.goals.Goal.TheOpen.{Goal-F, Call, Builtin, Conj, Disj, IfElse, Not, Exit}
 use Rattle.prog_data.specs.declared.goals.Goal.TheFolds.{fold-Goal}
@@ -54,11 +55,6 @@ arity_of builtin.IsVar = 1
 arity_of builtin.IsNonvar = 1
 arity_of builtin.IsGround = 1
 arity_of other = 2
-
--- whether it is an atom
-abbrev pub is_atom : layer.Term-F Term → Bool
-is_atom (layer.Atom a) = true
-is_atom other = false
 
 -- whether a test of a type has one argument and a basic type, or a second argument that is an atom and one of so many types
 abbrev pub is_type_test : (size type : ℕ) → List Term → Bool

@@ -1,8 +1,9 @@
 // The events of a run, one at a time.
 ghost use Rattle.std.specs.Prelude.{◌≡◌, IfOk, IsErr, IsSome, OnErr, true};
 ghost use Rattle.term_core.specs.declared.terms.Term.{out-Term};
+ghost use Rattle.term_core.specs.Shapes.{parts_of};
 ghost use Rattle.prog_data.specs.declared.events.Ending.{Ending};
-ghost use Rattle.prog_data.specs.Goals.{parts_of, called_by};
+ghost use Rattle.prog_data.specs.Goals.{called_by};
 ghost use Rattle.machine_model.specs.State.{Going, Over};
 ghost use Rattle.machine_model.specs.Run.{start_of};
 ghost use Rattle.machine_model.specs.Continues.{at_phase};

@@ -3,7 +3,7 @@ pub mod Counting
 mod FixedNames
 pub mod KindLaws
 pub mod NameLaws
-mod Occurrences
+pub mod Occurrences
 mod OperatorChanges
 mod OperatorLists
 pub mod OperatorTables

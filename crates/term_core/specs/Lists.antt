@@ -1,4 +1,5 @@
 -- The beginnings of lists.
+-- The headline does not rest on this file.
 use Rattle.std.specs.Prelude.{◌≡◌, ℕ, List, ◌++◌, take}
 
 -- the first list begins the second: each item keeps its place

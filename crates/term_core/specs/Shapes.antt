@@ -9,6 +9,11 @@ abbrev pub atom_at : Term-F Term → Option ℕ
 atom_at (Atom name) = Some name
 atom_at other = None
 
+-- whether a term is an atom
+abbrev pub is_atom : Term-F Term → Bool
+is_atom (Atom name) = true
+is_atom other = false
+
 -- the arguments of a compound, none of another term
 abbrev pub parts_of : Term-F Term → List Term
 parts_of (Node f parts) = parts

@@ -1,5 +1,5 @@
 -- What cells and a trail tell after each change.
-use Rattle.std.proofs.Common.{◌≡◌, ℕ, zero, suc, ◌+◌, ◌-◌, ◌<◌, ◌≤◌, ◌⊎◌, inl, inr, List, [], ◌∷◌, ◌++◌, reverse, length, map, get_or, take, drop, replicate, refl, sym, ap, ◌∙◌, subst, arith}
+use Rattle.std.proofs.Common.{◌≡◌, ℕ, zero, suc, ◌+◌, ◌-◌, ◌^◌, ◌<◌, ◌≤◌, ◌⊎◌, inl, inr, List, [], ◌∷◌, ◌++◌, reverse, length, map, get_or, take, drop, replicate, refl, sym, ap, ◌∙◌, subst, arith}
 use Rattle.std.specs.Prelude.{if◌then◌else◌, slice_set}
 use Rattle.std.proofs.lemmas.List.{get_or-set_same, length-append, length-set, length-reverse, map-append, reverse-append, reverse-reverse, set-set, set-get_or, take_at, drop_at, take_all, drop_all, append-nil, length-drop}
 use Rattle.std.proofs.lemmas.Bool.{le-leb, lt-leb, cases_lt}
@@ -7,7 +7,7 @@ use Rattle.term_heap.specs.declared.cells.Cell.{Cell}
 use Rattle.term_heap.specs.declared.cells.Cell.TheVariants.{Free, Ref}
 use Rattle.term_heap.specs.declared.trails.Entry.{Entry}
 use Rattle.term_heap.specs.declared.trails.Entry.TheVariants.{Grew, Bound}
-use Rattle.term_heap.specs.Changes.{Change, Grows, Binds, cell_at, cells_of, NameBelow, MayBind, IsMade, undone, serial_of, serials}
+use Rattle.term_heap.specs.Changes.{Change, Grows, Binds, cell_at, cells_of, NameBelow, MayBind, IsMade, undone, serial_of, serials, AreUpTo}
 use Rattle.term_heap.specs.Histories.{reference, entry_serial, changes_of, IsKept}
 
 -- as many changes as entries
@@ -34,15 +34,22 @@ bound_changes cells trail at to s lt free =
     ∙ ap (λ c. Binds at (reference c) s ∷ changes_of (slice_set (slice_set cells at (Ref to)) at Free) (reverse trail)) (get_or-set_same cells at (Ref to) Free lt)
     ∙ ap (λ cs. Binds at to s ∷ changes_of cs (reverse trail)) (free_again cells at (Ref to) free)
 
+-- serials up to one are up to a later one
+up_to_more : (last s : ℕ) (changes : List Change) → last ≤ s → AreUpTo last changes → AreUpTo s changes
+up_to_more last s [] le up = tt
+up_to_more last s (c ∷ changes) le up = (omega (arith, up.0, le), up_to_more last s changes le up.1)
+
 -- kept cells stay kept after a binding
-pub bound_kept : (cells : List Cell) (trail : List Entry) (at to s : ℕ) → IsKept cells trail → MayBind (changes_of cells (reverse trail)) at to →
-    IsKept (slice_set cells at (Ref to)) (trail ++ Bound at s ∷ [])
-bound_kept cells trail at to s kept may =
+pub bound_kept : (cells : List Cell) (trail : List Entry) (last at to s : ℕ) → last ≤ s → s < 2 ^ 64 → IsKept cells trail last → MayBind (changes_of cells (reverse trail)) at to →
+    IsKept (slice_set cells at (Ref to)) (trail ++ Bound at s ∷ []) s
+bound_kept cells trail last at to s le small kept may =
     let old : List Change = changes_of cells (reverse trail) in
     let is_new : _ ≡ Binds at to s ∷ old = bound_changes cells trail at to s (subst (λ cs. at < length cs) kept.same may.bound) (ap (λ cs. cell_at cs at) (sym kept.same) ∙ may.free) in
     record {
       same = ap cells_of is_new ∙ ap (λ cs. slice_set cs at (Ref to)) kept.same;
       made = subst IsMade (sym is_new) (may, kept.made);
+      given = subst (AreUpTo s) (sym is_new) (omega arith, up_to_more last s old le kept.given);
+      small = small;
     }
 
 -- new cells
@@ -53,13 +60,15 @@ grown_changes cells more trail from s e =
     ∙ ap (λ cs. Grows cs s ∷ changes_of (take from (cells ++ more)) (reverse trail)) (drop_at cells more from (sym e))
     ∙ ap (λ cs. Grows more s ∷ changes_of cs (reverse trail)) (take_at cells more from (sym e))
 
-pub grown_kept : (cells more : List Cell) (trail : List Entry) (from s : ℕ) → from ≡ length cells → IsKept cells trail → NameBelow (length cells) more →
-    IsKept (cells ++ more) (trail ++ Grew from s ∷ [])
-grown_kept cells more trail from s e kept names =
+pub grown_kept : (cells more : List Cell) (trail : List Entry) (last from s : ℕ) → last ≤ s → s < 2 ^ 64 → from ≡ length cells → IsKept cells trail last → NameBelow (length cells) more →
+    IsKept (cells ++ more) (trail ++ Grew from s ∷ []) s
+grown_kept cells more trail last from s le small e kept names =
     let is_new : _ ≡ Grows more s ∷ changes_of cells (reverse trail) = grown_changes cells more trail from s e in
     record {
       same = ap cells_of is_new ∙ ap (λ cs. cs ++ more) kept.same;
       made = subst IsMade (sym is_new) (subst (λ cs. NameBelow (length cs) more) (sym kept.same) names, kept.made);
+      given = subst (AreUpTo s) (sym is_new) (omega arith, up_to_more last s (changes_of cells (reverse trail)) le kept.given);
+      small = small;
     }
 
 -- changes that were undone
@@ -73,8 +82,8 @@ undone_more n c older le = ap (λ b. if b then c ∷ older else undone n older) 
 
 -- the newest change is undone
 
-abbrev pub Undoes : ℕ → List Cell → List Entry → List Cell → List Entry → Type 0
-Undoes n cells old new trail = IsKept new trail × (undone n (changes_of new (reverse trail)) ≡ undone n (changes_of cells (reverse old)))
+abbrev pub Undoes : (n last : ℕ) → List Cell → List Entry → List Cell → List Entry → Type 0
+Undoes n last cells old new trail = IsKept new trail last × (undone n (changes_of new (reverse trail)) ≡ undone n (changes_of cells (reverse old)))
 
 cut_off : (older cells : List Cell) (from : ℕ) → older ++ drop from cells ≡ cells → older ≡ take from cells
 cut_off older cells from e = by_size (cases_lt (length cells) from) where
@@ -85,33 +94,33 @@ cut_off older cells from e = by_size (cases_lt (length cells) from) where
       let sizes : length older + (length cells - from) ≡ length cells = ap (λ n. length older + n) (sym (length-drop from cells)) ∙ sym (length-append older (drop from cells)) ∙ ap length e in
       sym (take_at older (drop from cells) from (omega (arith, sizes, le))) ∙ ap (take from) e
 
-pub undoes_grew : (n : ℕ) (cells : List Cell) (old trail : List Entry) (from s : ℕ) → old ≡ trail ++ Grew from s ∷ [] → IsKept cells old → n ≤ length trail →
-    Undoes n cells old (take from cells) trail
-undoes_grew n cells old trail from s e kept le =
+pub undoes_grew : (n last : ℕ) (cells : List Cell) (old trail : List Entry) (from s : ℕ) → old ≡ trail ++ Grew from s ∷ [] → IsKept cells old last → n ≤ length trail →
+    Undoes n last cells old (take from cells) trail
+undoes_grew n last cells old trail from s e kept le =
     let older : List Change = changes_of (take from cells) (reverse trail) in
     let is_old : changes_of cells (reverse old) ≡ Grows (drop from cells) s ∷ older = ap (λ es. changes_of cells (reverse es)) e ∙ ap (changes_of cells) (newest trail (Grew from s)) in
     let made : IsMade (Grows (drop from cells) s ∷ older) = subst IsMade is_old kept.made in
     let whole : cells_of older ++ drop from cells ≡ cells = ap cells_of (sym is_old) ∙ kept.same in (
-      (record { same = cut_off (cells_of older) cells from whole; made = made.1 }),
+      (record { same = cut_off (cells_of older) cells from whole; made = made.1; given = (subst (AreUpTo last) is_old kept.given).1; small = kept.small }),
       sym (ap (undone n) is_old ∙ undone_more n (Grows (drop from cells) s) older (subst (λ k. n ≤ k) (sym (trail_length (take from cells) trail)) le)),
     )
 
-pub undoes_bound : (n : ℕ) (cells : List Cell) (old trail : List Entry) (at s : ℕ) → old ≡ trail ++ Bound at s ∷ [] → IsKept cells old → n ≤ length trail →
-    Undoes n cells old (slice_set cells at Free) trail
-undoes_bound n cells old trail at s e kept le =
+pub undoes_bound : (n last : ℕ) (cells : List Cell) (old trail : List Entry) (at s : ℕ) → old ≡ trail ++ Bound at s ∷ [] → IsKept cells old last → n ≤ length trail →
+    Undoes n last cells old (slice_set cells at Free) trail
+undoes_bound n last cells old trail at s e kept le =
     let older : List Change = changes_of (slice_set cells at Free) (reverse trail) in
     let to : ℕ = reference (cell_at cells at) in
     let is_old : changes_of cells (reverse old) ≡ Binds at to s ∷ older = ap (λ es. changes_of cells (reverse es)) e ∙ ap (changes_of cells) (newest trail (Bound at s)) in
     let made : IsMade (Binds at to s ∷ older) = subst IsMade is_old kept.made in
     let whole : slice_set (cells_of older) at (Ref to) ≡ cells = ap cells_of (sym is_old) ∙ kept.same in
     let before : cells_of older ≡ slice_set cells at Free = sym (free_again (cells_of older) at (Ref to) made.0.free) ∙ ap (λ cs. slice_set cs at Free) whole in (
-      (record { same = before; made = made.1 }),
+      (record { same = before; made = made.1; given = (subst (AreUpTo last) is_old kept.given).1; small = kept.small }),
       sym (ap (undone n) is_old ∙ undone_more n (Binds at to s) older (subst (λ k. n ≤ k) (sym (trail_length (slice_set cells at Free) trail)) le)),
     )
 
 -- a cell that the newest entry bound is there
-pub bound_within : (cells : List Cell) (old trail : List Entry) (at s : ℕ) → old ≡ trail ++ Bound at s ∷ [] → IsKept cells old → at < length cells
-bound_within cells old trail at s e kept =
+pub bound_within : (cells : List Cell) (old trail : List Entry) (last at s : ℕ) → old ≡ trail ++ Bound at s ∷ [] → IsKept cells old last → at < length cells
+bound_within cells old trail last at s e kept =
     let older : List Change = changes_of (slice_set cells at Free) (reverse trail) in
     let to : ℕ = reference (cell_at cells at) in
     let is_old : changes_of cells (reverse old) ≡ Binds at to s ∷ older = ap (λ es. changes_of cells (reverse es)) e ∙ ap (changes_of cells) (newest trail (Bound at s)) in

@@ -9,7 +9,7 @@ use Rattle.term_core.specs.Terms.{instance, occurs}
 use Rattle.term_core.specs.Sizes.{size, size_step, size_all}
 use Rattle.term_core.proofs.TermFolds.{fold_at_node}
 use Rattle.term_core.proofs.TermLaws.{instance_agrees, instance-Node, instance-Var}
-use Rattle.term_heap.proofs.Occurrences.{occurs-Node, occurs-Var}
+use Rattle.term_core.proofs.Occurrences.{occurs-Node, occurs-Var}
 use Rattle.term_core.specs.Lists.{IsPrefix}
 use Rattle.term_heap.specs.declared.cells.Cell.{Cell}
 use Rattle.term_heap.specs.declared.cells.Cell.TheVariants as cell

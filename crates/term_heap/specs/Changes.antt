@@ -1,6 +1,7 @@
 -- A heap as the changes that made it, the newest first: its cells, and the term of each place.
 -- The headline does not rest on this file.
-use Rattle.std.specs.Prelude.{◌≡◌, ℕ, zero, suc, ◌+◌, ◌==◌, ◌<◌, ◌≤◌, false, nat_le, List, [], ◌∷◌, ◌++◌, map, length, reverse, slice_index_or, slice_set, if◌then◌else◌, min, ◌^◌, ◌-◌, ⊤}
+use Rattle.std.specs.Prelude.{◌≡◌, ℕ, zero, suc, ◌+◌, ◌==◌, ◌<◌, ◌≤◌, false, nat_le, List, [], ◌∷◌, ◌++◌, map, length, reverse, slice_index_or, slice_set, if◌then◌else◌, min, ◌^◌, ◌-◌, ◌⊎◌, ⊤}
+use Rattle.std.specs.List.{AllByRecursion}
 use Rattle.term_core.specs.declared.terms.Term.{Term}
 use Rattle.term_core.specs.declared.terms.Term as term
 use Rattle.term_core.specs.Terms.{replace, occurs}
@@ -102,6 +103,14 @@ serials changes = map serial_of (reverse changes)
 -- the serial after this one; the last value stays
 abbrev pub next_serial : ℕ → ℕ
 next_serial s = min (s + 1) (2 ^ 64 - 1)
+
+-- a serial that comes after a last one: it is above it, or the last value
+abbrev pub ComesAfter : (last : ℕ) → (serial : ℕ) → Type 0
+ComesAfter last serial = (last < serial) ⊎ (serial ≡ 2 ^ 64 - 1)
+
+-- each change has a serial up to this one
+abbrev pub AreUpTo : ℕ → List Change → Type 0
+AreUpTo last changes = AllByRecursion (λ c. serial_of c ≤ last) changes
 
 -- the changes undone until that many are left
 abbrev pub undone : ℕ → List Change → List Change

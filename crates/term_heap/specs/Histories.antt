@@ -1,11 +1,11 @@
 -- The history that cells and a trail hold.
 -- The headline does not rest on this file.
-use Rattle.std.specs.Prelude.{◌≡◌, ℕ, List, [], ◌∷◌, reverse, take, drop, slice_set}
+use Rattle.std.specs.Prelude.{◌≡◌, ◌<◌, ◌^◌, ℕ, List, [], ◌∷◌, reverse, take, drop, slice_set}
 use Rattle.term_heap.specs.declared.cells.Cell.{Cell}
 use Rattle.term_heap.specs.declared.cells.Cell.TheVariants.{Free, Ref}
 use Rattle.term_heap.specs.declared.trails.Entry.{Entry}
 use Rattle.term_heap.specs.declared.trails.Entry.TheVariants.{Grew, Bound}
-use Rattle.term_heap.specs.Changes.{Change, Grows, Binds, cell_at, cells_of, IsMade}
+use Rattle.term_heap.specs.Changes.{Change, Grows, Binds, cell_at, cells_of, IsMade, AreUpTo}
 
 -- the place to which a cell refers
 abbrev pub reference : Cell → ℕ
@@ -23,7 +23,9 @@ abbrev pub entry_serial : Entry → ℕ
 entry_serial (Grew from s) = s
 entry_serial (Bound at s) = s
 
--- cells are those of the changes that they and the trail tell
-pub record IsKept (cells : List Cell) (trail : List Entry) : Type 0 where
+-- cells are those of the changes that they and the trail tell, whose serials are up to the last one
+pub record IsKept (cells : List Cell) (trail : List Entry) (last : ℕ) : Type 0 where
   pub same : cells_of (changes_of cells (reverse trail)) ≡ cells
   pub made : IsMade (changes_of cells (reverse trail))
+  pub given : AreUpTo last (changes_of cells (reverse trail))
+  pub small : last < 2 ^ 64

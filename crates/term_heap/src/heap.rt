@@ -1,7 +1,7 @@
 // Heaps.
-ghost use Rattle.std.specs.Prelude.{◌≡◌, ◌<◌, ◌≤◌, ◌∷◌, [], length, replicate, IfOk, OnOk, OnErr, slice_index_or};
+ghost use Rattle.std.specs.Prelude.{◌≡◌, ◌<◌, ◌≤◌, ◌^◌, ◌∷◌, [], length, replicate, IfOk, OnOk, OnErr, slice_index_or};
 ghost use Rattle.term_heap.specs.declared.cells.Cell.TheVariants.{Free};
-ghost use Rattle.term_heap.specs.Changes.{cells_of, size_of, cell_at, MayBind, Grows, Binds, next_serial, undone, serials, value_of, IsEnd, IsMade};
+ghost use Rattle.term_heap.specs.Changes.{cells_of, size_of, cell_at, MayBind, Grows, Binds, next_serial, undone, serials, value_of, IsEnd, IsMade, AreUpTo};
 ghost use Rattle.std.specs.List.{AllByRecursion};
 ghost use Rattle.term_heap.specs.Loads.{IsPlaced, HasLoaded};
 
@@ -30,7 +30,7 @@ impl Model for Heap {
 
     ghost view = { λ h. record { changes = changes_of h.cells.items (reverse h.trail.items); last = h.last } };
 
-    ghost invariant = { λ h. IsKept h.cells.items h.trail.items };
+    ghost invariant = { λ h. IsKept h.cells.items h.trail.items h.last };
 }
 
 /// A length of a trail.
@@ -55,6 +55,8 @@ impl Heap {
     pub fn len(&self) -> u64
         ensures len { result ≡ size_of self.now.changes }
         ensures made { IsMade self.now.changes }
+        ensures given { AreUpTo self.now.last self.now.changes }
+        ensures last { self.now.last < 2 ^ 64 }
     {
         self.cells.len() as u64
     }

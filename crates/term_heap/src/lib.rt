@@ -2,9 +2,12 @@
 #![tactic(auto)]
 
 mod cells;
+mod decoding;
 mod heap;
 mod laws;
 mod loading;
+#[cfg(test)]
+mod tests;
 mod trails;
 
 pub use cells::Cell;

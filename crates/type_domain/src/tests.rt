@@ -11,6 +11,126 @@ use std::alloc::Global;
 use std::test::Fail;
 use term_core::NoMemory;
 
+// Names, whose values are met.
+type Met = &'static [u64];
+
+// What is asked for.
+enum Asked {
+    // the values of these names, met
+    Names(Met),
+    Int(i64),
+    Atom(u64),
+    Join(Met, Met),
+    // part of the compounds of a name with so many arguments
+    Part(Met, u64, u64, u64),
+    // compounds of a name with these parts
+    Built(u64, &'static [Met]),
+}
+
+// What is asked for, and the names of the answer; none where no term is in it.
+type Row = (Asked, Option<&'static [u64]>);
+
+// The value that no term is in.
+const NONE: Value = Value { names: None };
+
+// A value with these names.
+fn named(names: &[u64]) -> Value {
+    let mut words = [0; 8];
+    for name in names {
+        words[(*name / 64 % 8) as usize] |= 1 << (*name % 64);
+    }
+    Value { names: Some(words) }
+}
+
+// The value of one name; none where the grammar has no such name.
+fn of_one(rel: &Relations, name: u64) -> Value {
+    if name < rel.len() {
+        of_name(rel, name)
+    } else {
+        NONE
+    }
+}
+
+// The values of these names, met; of no name, none.
+fn met(rel: &Relations, names: &[u64]) -> Value {
+    match names {
+        [] => NONE,
+        [name] => of_one(rel, *name),
+        [name, other, ..] => meet(rel, &of_one(rel, *name), &of_one(rel, *other)),
+    }
+}
+
+// Compounds whose parts are the values of these names.
+fn built(
+    alloc: Global,
+    grammar: &Grammar,
+    rel: &Relations,
+    name: u64,
+    parts: &[Met],
+) -> Result<Value, Fail>
+    requires { rel.now ≡ grammar.now }
+{
+    let mut values = Vec::new(alloc);
+    for part in parts {
+        values.push(met(rel, part))?;
+    }
+    Ok(build(grammar, rel, name, &values))
+}
+
+fn answer(alloc: Global, grammar: &Grammar, rel: &Relations, asked: &Asked) -> Result<Value, Fail>
+    requires { rel.now ≡ grammar.now }
+{
+    match asked {
+        Asked::Names(names) => Ok(met(rel, names)),
+        Asked::Int(n) => Ok(of_int(grammar, rel, *n)),
+        Asked::Atom(atom) => Ok(of_atom(grammar, rel, *atom)),
+        Asked::Join(left, right) => Ok(join(&met(rel, left), &met(rel, right))),
+        Asked::Part(names, name, arity, part) => {
+            if *part < *arity {
+                Ok(project(grammar, rel, &met(rel, names), *name, *arity, *part))
+            } else {
+                Ok(NONE)
+            }
+        }
+        Asked::Built(name, parts) => built(alloc, grammar, rel, *name, parts),
+    }
+}
+
+fn is_wanted(found: &Value, wanted: &Option<&'static [u64]>) -> bool {
+    match wanted {
+        None => found.names.is_none(),
+        Some(names) => found.names == named(names).names,
+    }
+}
+
+// The first row that is answered otherwise.
+fn first_wrong(
+    alloc: Global,
+    grammar: &Grammar,
+    rel: &Relations,
+    rows: &[Row],
+) -> Result<Option<usize>, Fail>
+    requires { rel.now ≡ grammar.now }
+{
+    for at in 0..rows.len() {
+        let found = answer(alloc, grammar, rel, &rows[at].0)?;
+        if !is_wanted(&found, &rows[at].1) {
+            return Ok(Some(at));
+        }
+    }
+    Ok(None)
+}
+
+// The first row whose values are ordered otherwise than it says.
+fn first_misplaced(rel: &Relations, rows: &[(Met, Met, bool)]) -> Option<usize> {
+    for at in 0..rows.len() {
+        if leq(&met(rel, rows[at].0), &met(rel, rows[at].1)) != rows[at].2 {
+            return Some(at);
+        }
+    }
+    None
+}
+
 fn two_rules(alloc: Global, first: Rule, second: Rule) -> Result<Items<Rule>, NoMemory>
     ensures { IfOk result (λ rules. rules ≡ first ∷ second ∷ []) }
 {
@@ -32,89 +152,45 @@ fn trees(alloc: Global) -> Result<Grammar, NoMemory>
     Ok(grammar)
 }
 
-// The value that no term is in.
-const NONE: Value = Value { names: None };
+const TREES: [Row; 19] = [
+    (Asked::Names(&[10]), Some(&[0, 5, 8, 10])),
+    (Asked::Names(&[9]), Some(&[0, 8, 9])),
+    (Asked::Names(&[9, 10]), None),
+    (Asked::Part(&[10], 81, 3, 1), Some(&[0, 1, 3, 5, 6])),
+    (Asked::Part(&[10], 81, 2, 1), None),
+    (Asked::Part(&[0], 81, 2, 1), Some(&[0])),
+    (Asked::Part(&[7], 81, 2, 0), Some(&[0])),
+    (Asked::Part(&[5], 81, 2, 0), Some(&[0, 5])),
+    (Asked::Part(&[1], 81, 2, 0), None),
+    (Asked::Part(&[9, 10], 81, 2, 0), None),
+    (
+        Asked::Built(81, &[&[10], &[1], &[10]]),
+        Some(&[0, 5, 7, 8, 10]),
+    ),
+    (Asked::Built(81, &[&[10], &[9, 10], &[10]]), None),
+    (Asked::Int(-1), Some(&[0, 1, 3, 5, 6])),
+    (Asked::Atom(80), Some(&[0, 4, 5, 6, 8, 10])),
+    (Asked::Atom(0), Some(&[0, 4, 5, 6, 8, 9])),
+    (Asked::Join(&[10], &[9]), Some(&[0, 8])),
+    (Asked::Join(&[9, 10], &[9]), Some(&[0, 8, 9])),
+    (Asked::Names(&[9, 5]), Some(&[0, 5, 8, 9])),
+    (Asked::Names(&[10, 1]), None),
+];
 
-// A value with these names.
-fn named(names: &[u64]) -> Value {
-    let mut words = [0; 8];
-    for name in names {
-        words[(*name / 64 % 8) as usize] |= 1 << (*name % 64);
-    }
-    Value { names: Some(words) }
-}
-
-// Whether two lists have the same values.
-fn are_same(found: &[Value], wanted: &[Value]) -> bool {
-    if found.len() != wanted.len() {
-        return false;
-    }
-    for index in 0..found.len() {
-        if found[index].names != wanted[index].names {
-            return false;
-        }
-    }
-    true
-}
+const TREES_ORDERED: [(Met, Met, bool); 4] = [
+    (&[10], &[8], true),
+    (&[8], &[10], false),
+    (&[9, 10], &[10], true),
+    (&[10], &[9, 10], false),
+];
 
 #[test]
 fn values_of_trees(rt: HostRuntime) -> Result<(), Fail> {
     let alloc = rt.alloc();
     let grammar = trees(alloc)?;
     let rel = Relations::make(alloc, &grammar)?;
-    let tree = of_name(&rel, 10);
-    let int = of_name(&rel, 1);
-    let list = of_name(&rel, 9);
-    let none = meet(&rel, &list, &tree);
-    let found = [
-        tree,
-        list,
-        none,
-        project(&grammar, &rel, &tree, 81, 3, 1),
-        project(&grammar, &rel, &tree, 81, 2, 1),
-        project(&grammar, &rel, &of_name(&rel, 0), 81, 2, 1),
-        project(&grammar, &rel, &of_name(&rel, 7), 81, 2, 0),
-        project(&grammar, &rel, &of_name(&rel, 5), 81, 2, 0),
-        project(&grammar, &rel, &int, 81, 2, 0),
-        project(&grammar, &rel, &none, 81, 2, 0),
-        build(&grammar, &rel, 81, &[tree, int, tree]),
-        build(&grammar, &rel, 81, &[tree, none, tree]),
-        of_int(&grammar, &rel, -1),
-        of_atom(&grammar, &rel, 80),
-        of_atom(&grammar, &rel, 0),
-        join(&tree, &list),
-        join(&none, &list),
-        meet(&rel, &list, &of_name(&rel, 5)),
-        meet(&rel, &tree, &int),
-    ];
-    let wanted = [
-        named(&[0, 5, 8, 10]),
-        named(&[0, 8, 9]),
-        NONE,
-        named(&[0, 1, 3, 5, 6]),
-        NONE,
-        named(&[0]),
-        named(&[0]),
-        named(&[0, 5]),
-        NONE,
-        NONE,
-        named(&[0, 5, 7, 8, 10]),
-        NONE,
-        named(&[0, 1, 3, 5, 6]),
-        named(&[0, 4, 5, 6, 8, 10]),
-        named(&[0, 4, 5, 6, 8, 9]),
-        named(&[0, 8]),
-        named(&[0, 8, 9]),
-        named(&[0, 5, 8, 9]),
-        NONE,
-    ];
-    assert!(rt; are_same(&found, &wanted));
-    assert!(rt;
-        leq(&tree, &of_name(&rel, 8))
-            && !leq(&of_name(&rel, 8), &tree)
-            && leq(&none, &tree)
-            && !leq(&tree, &none)
-    );
+    assert_eq!(rt; first_wrong(alloc, &grammar, &rel, &TREES)?, None);
+    assert_eq!(rt; first_misplaced(&rel, &TREES_ORDERED), None);
     Ok(())
 }
 
@@ -137,28 +213,24 @@ fn odd_names(alloc: Global) -> Result<Grammar, NoMemory>
     Ok(grammar)
 }
 
+const ODD: [Row; 6] = [
+    (Asked::Names(&[10]), Some(&[0, 5, 6, 10, 11])),
+    (
+        Asked::Names(&[12]),
+        Some(&[0, 1, 2, 3, 4, 5, 6, 7, 8, 9, 10, 11, 12]),
+    ),
+    (Asked::Int(3), Some(&[0, 1, 2, 3, 5, 6, 10, 11])),
+    (Asked::Atom(80), Some(&[0, 4, 5, 6, 8, 10, 11])),
+    (Asked::Names(&[0, 12]), None),
+    (Asked::Part(&[12], 81, 1, 0), None),
+];
+
 #[test]
 fn values_of_odd_names(rt: HostRuntime) -> Result<(), Fail> {
     let alloc = rt.alloc();
     let grammar = odd_names(alloc)?;
     let rel = Relations::make(alloc, &grammar)?;
-    let found = [
-        of_name(&rel, 10),
-        of_name(&rel, 12),
-        of_int(&grammar, &rel, 3),
-        of_atom(&grammar, &rel, 80),
-        meet(&rel, &of_name(&rel, 0), &of_name(&rel, 12)),
-        project(&grammar, &rel, &of_name(&rel, 12), 81, 1, 0),
-    ];
-    let wanted = [
-        named(&[0, 5, 6, 10, 11]),
-        named(&[0, 1, 2, 3, 4, 5, 6, 7, 8, 9, 10, 11, 12]),
-        named(&[0, 1, 2, 3, 5, 6, 10, 11]),
-        named(&[0, 4, 5, 6, 8, 10, 11]),
-        NONE,
-        NONE,
-    ];
-    assert!(rt; are_same(&found, &wanted));
+    assert_eq!(rt; first_wrong(alloc, &grammar, &rel, &ODD)?, None);
     Ok(())
 }
 
@@ -213,47 +285,30 @@ fn many_names(alloc: Global) -> Result<Grammar, NoMemory>
     with_name(grammar, atoms_too)
 }
 
+const MANY: [Row; 13] = [
+    (Asked::Names(&[138]), Some(&[0, 4, 5, 6, 8, 138])),
+    (Asked::Atom(1070), Some(&[0, 4, 5, 6, 8, 70])),
+    (Asked::Names(&[139]), Some(&[0, 5, 7, 8, 139])),
+    (Asked::Part(&[139], 81, 2, 0), Some(&[0, 4, 5, 6, 8, 138])),
+    (Asked::Part(&[139], 81, 2, 1), Some(&[0, 4, 5, 6, 8, 70])),
+    (Asked::Built(81, &[&[138], &[70]]), Some(&[0, 5, 7, 8, 139])),
+    (Asked::Built(81, &[&[70], &[138]]), Some(&[0, 5, 7, 8])),
+    (Asked::Join(&[138], &[70]), Some(&[0, 4, 5, 6, 8])),
+    (Asked::Names(&[138, 70]), None),
+    (Asked::Names(&[8, 139]), Some(&[0, 5, 7, 8, 139])),
+    (Asked::Names(&[140, 141]), Some(&[0, 5, 8, 140, 141])),
+    (Asked::Part(&[140], 82, 1, 0), Some(&[0, 1, 3, 5, 6])),
+    (Asked::Part(&[140, 141], 82, 1, 0), None),
+];
+
+const MANY_ORDERED: [(Met, Met, bool); 2] = [(&[139], &[7], true), (&[7], &[139], false)];
+
 #[test]
 fn values_of_many_names(rt: HostRuntime) -> Result<(), Fail> {
     let alloc = rt.alloc();
     let grammar = many_names(alloc)?;
     let rel = Relations::make(alloc, &grammar)?;
-    let first = of_name(&rel, 138);
-    let second = of_name(&rel, 70);
-    let pairs = of_name(&rel, 139);
-    let ints = of_name(&rel, 140);
-    let both = meet(&rel, &ints, &of_name(&rel, 141));
-    let found = [
-        first,
-        of_atom(&grammar, &rel, 1070),
-        pairs,
-        project(&grammar, &rel, &pairs, 81, 2, 0),
-        project(&grammar, &rel, &pairs, 81, 2, 1),
-        build(&grammar, &rel, 81, &[first, second]),
-        build(&grammar, &rel, 81, &[second, first]),
-        join(&first, &second),
-        meet(&rel, &first, &second),
-        meet(&rel, &of_name(&rel, 8), &pairs),
-        both,
-        project(&grammar, &rel, &ints, 82, 1, 0),
-        project(&grammar, &rel, &both, 82, 1, 0),
-    ];
-    let wanted = [
-        named(&[0, 4, 5, 6, 8, 138]),
-        named(&[0, 4, 5, 6, 8, 70]),
-        named(&[0, 5, 7, 8, 139]),
-        named(&[0, 4, 5, 6, 8, 138]),
-        named(&[0, 4, 5, 6, 8, 70]),
-        named(&[0, 5, 7, 8, 139]),
-        named(&[0, 5, 7, 8]),
-        named(&[0, 4, 5, 6, 8]),
-        NONE,
-        named(&[0, 5, 7, 8, 139]),
-        named(&[0, 5, 8, 140, 141]),
-        named(&[0, 1, 3, 5, 6]),
-        NONE,
-    ];
-    assert!(rt; are_same(&found, &wanted));
-    assert!(rt; leq(&pairs, &of_name(&rel, 7)) && !leq(&of_name(&rel, 7), &pairs));
+    assert_eq!(rt; first_wrong(alloc, &grammar, &rel, &MANY)?, None);
+    assert_eq!(rt; first_misplaced(&rel, &MANY_ORDERED), None);
     Ok(())
 }

@@ -23,7 +23,7 @@ use Rattle.term_core.proofs.KindLaws.{equation, EndsSo, kinds}
 
 -- kinds of outcomes
 
-same_itself : (o : Outcome) → SameKind o o
+pub same_itself : (o : Outcome) → SameKind o o
 same_itself (Solved bs) = tt
 same_itself Clash = tt
 same_itself Cyclic = tt
@@ -55,12 +55,12 @@ same_then Cyclic (Solved bs) q h k = absurd h
 same_then Cyclic Clash q h k = absurd h
 
 -- the bindings that were made do not matter, and no more do the names of variables
-variants_end : (there back : ℕ → Term) (es es' : List Equation) → AreVariants there back es es' → (bs : List Binding) (o : Outcome) → EndsAs es o → (o' : Outcome) × EndsSo (Open es' bs) o' × SameKind o' o
+pub variants_end : (there back : ℕ → Term) (es es' : List Equation) → AreVariants there back es es' → (bs : List Binding) (o : Outcome) → EndsAs es o → (o' : Outcome) × EndsSo (Open es' bs) o' × SameKind o' o
 variants_end there back es es' are bs o ends =
     let found = kinds ends.1.0 there back es es' are [] bs ends.0 ends.1.1 in
     (found.0, found.1, same_then found.0 ends.0 o (same_turned ends.0 found.0 found.2) ends.2)
 
-itself : (es : List Equation) → all_instances Var es ≡ es
+pub itself : (es : List Equation) → all_instances Var es ≡ es
 itself [] = refl
 itself (e ∷ es) = λ i. record { left = instance-itself e.left i; right = instance-itself e.right i } ∷ itself es i
 

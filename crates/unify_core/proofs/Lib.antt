@@ -1,9 +1,15 @@
-pub mod LeadLaws
-pub mod MeetLaws
-pub mod MetLaws
-pub mod OccursLaws
-pub mod PairLaws
-pub mod PairSizes
-pub mod PairSteps
-pub mod ReduceLaws
-pub mod UnifyLaws
+mod AloneLaws
+mod HeadLaws
+mod LeadLaws
+mod MatchLaws
+mod MeetLaws
+mod MetLaws
+mod NewLaws
+mod OccursLaws
+mod PairLaws
+mod PairSizes
+mod PairSteps
+mod ReduceLaws
+mod SequenceLaws
+mod TestPremises
+mod UnifyLaws

@@ -11,7 +11,7 @@ use Rattle.term_core.specs.Terms.{instance, occurs}
 use Rattle.term_core.specs.Unify.{pairs, Becomes, Binds, Clashes, Cycles, move, move_at, after, Unified}
 use Rattle.term_core.specs.Solutions.{Solves}
 use Rattle.term_core.proofs.TermLaws.{instance-Node}
-use Rattle.term_heap.proofs.Occurrences.{occurs-Var}
+use Rattle.term_core.proofs.Occurrences.{occurs-Var}
 use Rattle.term_core.specs.Variants.{SameKind}
 use Rattle.unify_core.specs.Leads.{EndsAs, Leads, Bindable, Goes}
 use Rattle.term_core.proofs.VariantLaws.{node_inside}

@@ -6,7 +6,7 @@ use Rattle.std.proofs.lemmas.List.{append_assoc}
 use Rattle.term_core.specs.declared.terms.Term.{Term, Node}
 use Rattle.term_core.specs.Terms.{occurs, occurs_step}
 use Rattle.term_core.proofs.TermFolds.{fold-Int, fold-Atom, fold-Node}
-use Rattle.term_heap.proofs.Occurrences.{occurs-Node, occurs-Var}
+use Rattle.term_core.proofs.Occurrences.{occurs-Node, occurs-Var}
 use Rattle.term_core.specs.Sizes.{size, size_step, total}
 use Rattle.term_core.proofs.Sizes.{size_pos}
 use Rattle.term_heap.specs.declared.cells.Cell.{Cell}

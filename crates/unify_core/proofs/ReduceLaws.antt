@@ -10,7 +10,7 @@ use Rattle.term_core.specs.declared.terms.Term.TheVariants.{outs-Var, outs-Int, 
 use Rattle.term_core.specs.Terms.{occurs, occurs_step}
 use Rattle.term_core.specs.Unify.{pairs, Becomes, Binds, Clashes, Cycles, move, move_at}
 use Rattle.term_core.proofs.TermFolds.{fold-Int, fold-Atom}
-use Rattle.term_heap.proofs.Occurrences.{occurs-Var}
+use Rattle.term_core.proofs.Occurrences.{occurs-Var}
 use Rattle.term_heap.specs.declared.cells.Cell.{Cell}
 use Rattle.term_heap.specs.declared.cells.Cell.TheVariants as cell
 use Rattle.term_heap.specs.Changes.{cell_term, places, IsEnd}

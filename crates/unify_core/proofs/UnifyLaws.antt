@@ -1,5 +1,5 @@
 -- The bindings of a unification, one after the other.
-use Rattle.std.proofs.Common.{◌≡◌, ◌<◌, ℕ, zero, suc, ◌+◌, Bool, true, false, List, [], ◌∷◌, length, Some, None, refl, sym, ap, ◌∙◌, subst, arith}
+use Rattle.std.proofs.Common.{◌≡◌, ◌<◌, ◌^◌, ℕ, zero, suc, ◌+◌, Bool, true, false, List, [], ◌∷◌, length, Some, None, refl, sym, ap, ◌∙◌, subst, arith}
 use Rattle.std.specs.Prelude.{slice_set}
 use Rattle.std.proofs.lemmas.List.{length-set}
 use Rattle.term_core.specs.declared.terms.Term.{Term, Var}
@@ -10,7 +10,9 @@ use Rattle.term_core.specs.Unify.{Unified as EndsIn}
 use Rattle.term_core.proofs.TermLaws.{instance-itself, instance-instance}
 use Rattle.term_heap.specs.declared.cells.Cell.{Cell}
 use Rattle.term_heap.specs.declared.cells.Cell.TheVariants as cell
-use Rattle.term_heap.specs.Changes.{Change, Binds, value_of, size_of, cells_of, cell_at, MayBind}
+use Rattle.term_heap.specs.Changes.{Change, History, Binds, value_of, size_of, cells_of, cell_at, MayBind, next_serial}
+use Rattle.term_heap.specs.PastStays.{with_change}
+use Rattle.term_heap.proofs.PastLaws.{serial_after, after_earlier}
 use Rattle.unify_core.specs.declared.pairs.Pair.{Pair}
 use Rattle.unify_core.specs.declared.pairs.Stop.TheVariants as stop
 use Rattle.unify_core.specs.declared.unifying.Unified.TheVariants as unified
@@ -35,11 +37,19 @@ started old a b work e = subst (LeadsFrom old a b old) (sym e) (record {
   leads = leads_start (places_equation old a b ∷ []);
 })
 
-pub later_itself : (old : List Change) → IsLater old old
-later_itself old = record { more = []; bindings = tt; is_new = refl }
+pub later_itself : (old : History) → IsLater old old
+later_itself old = record { goes_on = record { more = []; is_new = refl; serials = tt; last = omega arith }; bindings = tt }
 
-pub later_bound : (old now : List Change) (v t s : ℕ) → IsLater old now → IsLater old (Binds v t s ∷ now)
-later_bound old now v t s later = record { more = Binds v t s ∷ later.more; bindings = later.bindings; is_new = ap (λ cs. Binds v t s ∷ cs) later.is_new }
+pub later_bound : (old now : History) (v t : ℕ) → now.last < 2 ^ 64 → IsLater old now → IsLater old (with_change now (Binds v t))
+later_bound old now v t small later = record {
+  goes_on = record {
+    more = Binds v t (next_serial now.last) ∷ later.goes_on.more;
+    is_new = ap (λ cs. Binds v t (next_serial now.last) ∷ cs) later.goes_on.is_new;
+    serials = (after_earlier old.last now.last (next_serial now.last) later.goes_on.last (serial_after now.last), later.goes_on.serials);
+    last = omega (arith, later.goes_on.last, small);
+  };
+  bindings = later.bindings;
+}
 
 pub may_bind : (old now : List Change) (a b v t : ℕ) (before after : List Pair) → LeadsFrom old a b now before → Reduced now before (Some (stop.Bind v t)) after → MayBind now v t
 may_bind old now a b v t before after from reduced = (reduced.stands (places_equation old a b ∷ []) from.value from.leads).0

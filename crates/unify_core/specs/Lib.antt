@@ -1,5 +1,8 @@
+pub mod Heads
 pub mod Leads
 pub mod Meets
 pub mod Places
 pub mod Reduces
+pub mod Sequences
 pub mod Unifies
+pub mod Unmet

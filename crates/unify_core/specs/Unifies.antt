@@ -1,12 +1,13 @@
 -- Unification of two places of a heap.
 -- The headline does not rest on this file.
-use Rattle.std.specs.Prelude.{◌≡◌, ℕ, List, [], ◌∷◌, ◌++◌, ⊤}
+use Rattle.std.specs.Prelude.{◌≡◌, ℕ, List, [], ◌∷◌, ⊤}
 use Rattle.term_core.specs.declared.terms.Term.{Term}
 use Rattle.term_core.specs.declared.equations.Equation.{Equation}
 use Rattle.term_core.specs.declared.equations.Outcome.TheVariants as outcome
 use Rattle.term_core.specs.Terms.{instance}
 use Rattle.term_core.specs.Unify.{Unified as EndsIn}
-use Rattle.term_heap.specs.Changes.{Change, Grows, Binds, value_of}
+use Rattle.term_heap.specs.Changes.{Change, History, Grows, Binds, value_of}
+use Rattle.term_heap.specs.PastStays.{GoesOn}
 use Rattle.unify_core.specs.declared.unifying.Unified.{Unified}
 use Rattle.unify_core.specs.declared.unifying.Unified.TheVariants.{Same, Clash, Cyclic}
 use Rattle.term_core.specs.Variants.{IsMostGeneral}
@@ -22,10 +23,9 @@ AreBindings (Grows cells s ∷ changes) = ⊥
 AreBindings (Binds at to s ∷ changes) = AreBindings changes
 
 -- only bindings were made since
-pub record IsLater (old new : List Change) : Type 0 where
-  pub more : List Change
-  pub bindings : AreBindings more
-  pub is_new : new ≡ more ++ old
+pub record IsLater (old new : History) : Type 0 where
+  pub goes_on : GoesOn old new
+  pub bindings : AreBindings goes_on.more
 
 -- how the equation of two places ends; where it is solved, each place has its old term under a most general solution
 abbrev pub HasUnified : List Change → ℕ → ℕ → Unified → List Change → Type 0

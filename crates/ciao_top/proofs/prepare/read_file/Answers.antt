@@ -1,4 +1,4 @@
-use Rattle.std.proofs.Common.{ap, ◌∙◌, Some, None, rules}
+use Rattle.std.proofs.Common.{ap, ◌∙◌, Some, None}
 use Rattle.std.specs.Prelude.{Ok, vec_items}
 use Rattle.ciao_top.specs.InnerAnswers.{run_words}
 use Rattle.ciao_top.proofs.Files.{told_as, one_read_of, no_file, fronts_of}

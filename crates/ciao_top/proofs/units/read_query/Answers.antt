@@ -8,3 +8,6 @@ returns-else-wants_memory-clause-none c =
 
 pub returns-in-Ok-clause-some : goal.returns-in-Ok-clause-some
 returns-in-Ok-clause-some c = record { goal = c.in-Ok.goal; has = c.in-Ok.ensures.ok; is = refl }
+
+pub returns-in-Ok-clause-in_range : goal.returns-in-Ok-clause-in_range
+returns-in-Ok-clause-in_range c = c.in-Ok.ensures.in_range.named

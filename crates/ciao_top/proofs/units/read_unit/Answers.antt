@@ -32,3 +32,6 @@ returns-clause-ok c =
       file_is = file_place c.args.base.now c.as_str.result.now c.in_ok-names.names c.intern.new.self c.intern-2.new.self c.in_ok-names.ensures c.in_ok-name.ensures.ok text c.in_ok-file.ensures.ok c.in_ok-file.file c.in_ok-file.ensures.place;
       name_is = name_place c.args.base.now c.as_str.result.now c.in_ok-names.names c.intern.new.self c.intern-2.new.self c.in_ok-names.ensures c.in_ok-name.ensures.ok text c.in_ok-file.ensures.ok c.in_ok-name.name c.in_ok-name.ensures.place;
     }
+
+pub returns-clause-in_range : goal.returns-clause-in_range
+returns-clause-in_range c = c.units_law.ensures c.args.base.now c.args.bytes.now _ (returns-clause-ok c)

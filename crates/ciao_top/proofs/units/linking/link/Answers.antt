@@ -1,6 +1,8 @@
-use Rattle.std.proofs.Common.{refl, sym, ap, ◌∙◌}
+use Rattle.std.proofs.Common.{refl, sym, ap, ◌∙◌, subst}
 use Rattle.sld_engine.specs.Built.{is_built}
+use Rattle.ciao_top.specs.UnitRange.{IsProgramLinked}
 use Rattle.ciao_top.proofs.LinkBuilt.{unit_is_built}
+use Rattle.ciao_top.proofs.LinkRange.{unit_is_linked}
 use Rattle.ciao_top.proofs.units.linking.link.Goals as goal
 
 pub returns-in-Some-clause-err : goal.returns-in-Some-clause-err
@@ -8,3 +10,7 @@ returns-in-Some-clause-err c = (sym c.undefined_line.ensures ∙ c.in-Some.is, r
 
 pub returns-in_ok-with_program-in-None-clause-built : goal.returns-in_ok-with_program-in-None-clause-built
 returns-in_ok-with_program-in-None-clause-built c = ap is_built c.in_ok-with_program-in-None.ensures.program ∙ unit_is_built c.args.unit
+
+pub returns-in_ok-with_program-in-None-clause-linked : goal.returns-in_ok-with_program-in-None-clause-linked
+returns-in_ok-with_program-in-None-clause-linked c =
+    subst IsProgramLinked (sym c.in_ok-with_program-in-None.ensures.program) (unit_is_linked c.args.unit c.requires (sym c.undefined_line.ensures ∙ c.in-None.is))

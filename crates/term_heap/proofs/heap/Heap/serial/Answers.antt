@@ -1,6 +1,6 @@
-use Rattle.std.proofs.Common.{◌≡◌, ◌<◌, length, map, reverse, get_or, sym, ap, ◌∙◌, arith}
+use Rattle.std.proofs.Common.{◌≡◌, length, map, get_or, sym, ap, ◌∙◌, arith}
 use Rattle.term_heap.specs.Changes.{serials}
-use Rattle.term_heap.specs.Histories.{entry_serial, changes_of}
+use Rattle.term_heap.specs.Histories.{entry_serial}
 use Rattle.term_heap.proofs.HistoryLaws.{trail_length, trail_serials, serial_there}
 use Rattle.term_heap.proofs.heap.Heap.serial.Goals as goal
 

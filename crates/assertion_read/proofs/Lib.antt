@@ -1,0 +1,5 @@
+mod Ordered
+mod NoFields
+mod WrittenLaws
+mod Rows
+mod RangeLaws

@@ -1,0 +1,13 @@
+mod MainFiles
+mod Capacity
+mod Lists
+mod TermNames
+mod AskedRanges
+mod UnitLaws
+mod FileReads
+mod Paths
+mod Loads
+mod Fronts
+mod Rounds
+mod OneOutcome
+mod SomeOutcome

@@ -1,0 +1,13 @@
+pub mod Directives
+pub mod Drafts
+pub mod FileNames
+pub mod FilesRead
+pub mod Headings
+pub mod Libraries
+pub mod Listings
+pub mod LoadLaws
+pub mod LoadReads
+pub mod Loaded
+pub mod Queue
+pub mod Stages
+pub mod UnitRanges

@@ -1,0 +1,24 @@
+-- What is claimed of loads: for given files, names and a main file there is one outcome.
+-- The headline does not rest on this file.
+use Rattle.std.specs.Prelude.{◌≡◌, List}
+use Rattle.byte_io.specs.Outside.{Held}
+use Rattle.prog_data.specs.declared.refusals.Refusal.{Refusal}
+use Rattle.ciao_modules.specs.FileNames.{Word}
+use Rattle.ciao_modules.specs.Loaded.{Loaded, LoadRefused}
+use Rattle.ciao_modules.specs.declared.units.Unit.{Unit}
+
+-- the units are the same, and the names at last
+abbrev pub OneLoad : Type 0
+OneLoad = (held : Held) (main : Word) (before after later : List Word) (units others : List Unit) → Loaded held main before after units → Loaded held main before later others → (units ≡ others) × (after ≡ later)
+
+-- where there are units there is no refusal
+abbrev pub NoLoadRefused : Type 0
+NoLoadRefused = (held : Held) (main : Word) (before after later : List Word) (units : List Unit) (refusal : Refusal) → Loaded held main before after units → LoadRefused held main before later refusal → ⊥
+
+-- the first refusal is the same
+abbrev pub OneLoadRefusal : Type 0
+OneLoadRefusal = (held : Held) (main : Word) (before after later : List Word) (refusal other : Refusal) → LoadRefused held main before after refusal → LoadRefused held main before later other → refusal ≡ other
+
+-- there are units or a first refusal: it is not so that there is neither
+abbrev pub SomeLoad : Type 0
+SomeLoad = (held : Held) (main : Word) (before : List Word) → ((after : List Word) (units : List Unit) → Loaded held main before after units → ⊥) → ((after : List Word) (refusal : Refusal) → LoadRefused held main before after refusal → ⊥) → ⊥

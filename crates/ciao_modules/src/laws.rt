@@ -1,0 +1,20 @@
+// The laws of loads.
+ghost use Rattle.ciao_modules.specs.LoadLaws.{OneLoad, NoLoadRefused, OneLoadRefusal, SomeLoad};
+
+use ciao_reader::{every_text_law, one_outcome_law};
+
+/// For given files a main file has one list of units or one first refusal, and not both.
+pub fn one_load_law()
+    ensures one { OneLoad }
+    ensures none { NoLoadRefused }
+    ensures refusal { OneLoadRefusal }
+{
+    one_outcome_law();
+}
+
+/// For given files a main file has units or a first refusal: it is not so that there is neither.
+pub fn some_load_law()
+    ensures { SomeLoad }
+{
+    every_text_law();
+}

@@ -1,0 +1,22 @@
+//! The files of a program: which are read, in which order, and what each of them says to the others.
+#![tactic(auto)]
+
+mod directives;
+mod drafts;
+mod file_names;
+mod headings;
+mod laws;
+mod libraries;
+mod listings;
+mod loading;
+mod queue;
+mod reading;
+#[cfg(test)]
+mod tests;
+mod units;
+
+pub use file_names::base_of;
+pub use laws::{one_load_law, some_load_law};
+pub use libraries::Library;
+pub use loading::load_set;
+pub use units::{Export, Exports, Import, LoadFault, Unit};

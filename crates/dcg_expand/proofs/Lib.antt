@@ -1,0 +1,4 @@
+mod Lines
+pub mod RangeLaws
+pub mod RangeParts
+mod Themselves

@@ -1,0 +1,13 @@
+mod InValues
+mod InUnified
+mod InConditions
+mod Narrowing
+mod Described
+mod DescribedLaws
+mod DescribedBuiltins
+mod DescribedCalls
+mod DescribedGoals
+mod DescribedClauses
+mod DescribedSteps
+mod DescribedPoints
+mod Sound

@@ -1,0 +1,2 @@
+pub mod ReliedOn
+pub mod Laws

@@ -1,0 +1,5 @@
+mod Alternatives
+mod Joining
+mod Lines
+mod RangeLaws
+mod Themselves

@@ -1,0 +1,4 @@
+% A predicate whose name is a prefix operator.
+:- module(minus,[(-)/1]).
+
+-(a).
