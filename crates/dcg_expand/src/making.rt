@@ -1,5 +1,5 @@
 // What expansions make terms of.
-ghost use Rattle.std.specs.Prelude.{◌≡◌, IfOk, [], ◌∷◌};
+ghost use Rattle.std.specs.Prelude.{◌≡◌, ◌≤◌, ◌+◌, ◌^◌, IfOk, OnErr, [], ◌∷◌};
 ghost use Rattle.term_core.specs.declared.fixed.TheConstants.{NIL};
 ghost use Rattle.term_core.specs.declared.terms.Term as Term;
 ghost use Rattle.dcg_expand.specs.Making.{Makes, new_variable};
@@ -11,8 +11,13 @@ use std::alloc::Global;
 use term_core::{NIL, NoMemory, Term, copy, discard, one};
 
 /// The next new variable.
+///
+/// # Errors
+/// Want of memory, where no number is left behind it. Then `next` is as before.
 pub fn new_variable(next: &mut u64) -> Result<u64, ExpandFault>
-    ensures { Makes result next.new (new_variable next.old) }
+    ensures made { Makes result next.new (new_variable next.old) }
+    ensures last { OnErr result (2 ^ 64 ≤ next.old + 1) }
+    ensures kept { OnErr result (next.new ≡ next.old) }
 {
     let variable = *next;
     match next.checked_add(1) {

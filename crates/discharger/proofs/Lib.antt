@@ -11,3 +11,4 @@ mod DescribedClauses
 mod DescribedSteps
 mod DescribedPoints
 mod Sound
+mod ClosedTables

@@ -1,2 +1,3 @@
 pub mod ReliedOn
 pub mod Laws
+pub mod ClosedTables

@@ -3,6 +3,7 @@ ghost use Rattle.prog_data.specs.declared.grammars.Grammar.{Grammar as GrammarVa
 ghost use Rattle.prog_data.specs.declared.programs.Program.{Program};
 ghost use Rattle.prog_data.specs.GrammarRange.{IsGrammar};
 ghost use Rattle.discharger.specs.ReliedOn.{ReliedOn};
+ghost use Rattle.discharger.specs.ClosedTables.{AnyRowsAreClosed};
 ghost use Rattle.discharger.specs.Laws.{ClosedDescribes, ClosedIsSound, ErasedIsSound, Discharges};
 
 use goal_transfer::{exit_law, monotone_law};
@@ -66,4 +67,12 @@ pub fn discharged_law()
 {
     sound_law();
     simulation_law();
+}
+
+/// A program in range has a closed table: that in which each predicate is called, and exits, with any terms.
+pub fn closed_table_law()
+    ensures { (program : Program) → AnyRowsAreClosed program }
+{
+    goal_transfer::given_law();
+    type_domain::given_law();
 }

@@ -3,4 +3,4 @@
 
 mod laws;
 
-pub use laws::{described_law, discharged_law, sound_law, told_sound_law};
+pub use laws::{closed_table_law, described_law, discharged_law, sound_law, told_sound_law};
