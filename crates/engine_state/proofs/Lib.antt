@@ -1,0 +1,11 @@
+mod BelowLaws
+mod ChoiceLaws
+mod CutLaws
+mod ExitLaws
+mod FewestLaws
+mod FrameLaws
+mod GoalInstances
+mod LinkLaws
+mod MarkLaws
+mod NoteLaws
+mod PointLaws
