@@ -58,7 +58,7 @@ pub pushed_choices : (changes : List Change) (old new : List Link) (held query :
 pushed_choices changes old new held query [] same are = refl
 pushed_choices changes old new held query (p ∷ ps) same are =
     (λ i. same_alternative (value_of (undone p.trail changes)) old new query p.alternative (same (rest_of p.alternative) (omega (arith, are.0, are.1))) i
-        ++ pushed_choices changes old new p.links query ps (λ j le. same j (omega (arith, are.0, le))) are.2 i)
+    ++ pushed_choices changes old new p.links query ps (λ j le. same j (omega (arith, are.0, le))) are.2 i)
 
 -- new choice points
 

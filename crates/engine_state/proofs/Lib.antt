@@ -7,5 +7,6 @@ mod FrameLaws
 mod GoalInstances
 mod LinkLaws
 mod MarkLaws
+mod MomentLaws
 mod NoteLaws
 mod PointLaws

@@ -76,5 +76,5 @@ module _ (height : ℕ) where
         ∙ parts_are at.older at.newer q
         ∙ ap (λ r. newer ++ r ∷ older) exited_q
         ∙ sym (ap (exit_points height) (ap (as_points notes) at.is ∙ parts_are at.older at.newer at.found)
-            ∙ exit_past (reverse at.newer) (x ∷ older) (reverse_elsewhere at.newer at.others)
-            ∙ ap (λ b. newer ++ (if b then record x { alternative = exited_alternative x.alternative } ∷ older else x ∷ exit_points height older)) (eq-eqb height at.found.below at.below))
+        ∙ exit_past (reverse at.newer) (x ∷ older) (reverse_elsewhere at.newer at.others)
+        ∙ ap (λ b. newer ++ (if b then record x { alternative = exited_alternative x.alternative } ∷ older else x ∷ exit_points height older)) (eq-eqb height at.found.below at.below))

@@ -6,6 +6,7 @@ use Rattle.std.proofs.lemmas.List.{length-append, reverse-append, take_all, take
 use Rattle.term_heap.specs.Changes.{places}
 use Rattle.engine_state.specs.declared.points.ChoicePoint as code
 use Rattle.engine_state.specs.declared.points.Pending as code_pending
+use Rattle.engine_state.specs.declared.points.Alternative as code_a
 use Rattle.engine_state.specs.declared.points.Alternative.TheVariants as code_alternative
 use Rattle.engine_state.specs.Engines.{Pending, Retries, ChoicePoint, choices_of, AreInOrder, AreHeld}
 use Rattle.engine_state.specs.Stacks.{width, height_of, AreCounted, shortened, cut_points, IsTaken}
@@ -30,7 +31,7 @@ module _ (notes : List ℕ) (points : List code.ChoicePoint) (p : code.ChoicePoi
   pub height_is : p.below + width (as_alternative notes p.alternative) ≡ height_of (as_points notes points)
   height_is = sym (ap height_of points_are)
 
-  size_is : length points ≡ length at_end.older + 1
+  pub size_is : length points ≡ length at_end.older + 1
   size_is = ap length at_end.is ∙ length-append at_end.older (p ∷ [])
 
   -- without it
@@ -44,7 +45,7 @@ module _ (notes : List ℕ) (points : List code.ChoicePoint) (p : code.ChoicePoi
 
 -- clauses that are left
 
-length-places : (first count : ℕ) → length (places first count) ≡ count
+pub length-places : (first count : ℕ) → length (places first count) ≡ count
 length-places first zero = refl
 length-places first (suc count) = ap suc (length-places (suc first) count)
 
@@ -62,6 +63,10 @@ clauses_short next end left new is =
     let from : new ≡ next + ((end - next) - left) = omega (arith, is) in
     let count : end - new ≡ (end - next) - ((end - next) - left) = omega (arith, is) in
     (λ i. places (from i) (count i)) ∙ sym (drop_places ((end - next) - left) next (end - next)) ∙ ap (λ n. drop (n - left) (places next (end - next))) (sym size)
+
+-- an alternative with one clause at most
+pub width_short : (notes : List ℕ) (next end : ℕ) (c : code_pending.Pending) (a : code_a.Alternative) → a ≡ code_alternative.Retries next end c → end - next ≤ 1 → width (as_alternative notes a) ≤ 1
+width_short notes next end c a is le = subst (λ n. n ≤ 1) (sym (ap (λ x. width (as_alternative notes x)) is ∙ length-places next (end - next))) le
 
 -- cutting
 
@@ -113,7 +118,7 @@ module _ (notes : List ℕ) (points new : List code.ChoicePoint) (p : code.Choic
       (taken_whole (as_point notes p) (as_points notes at_end.older) single))
 
   module _ (next end : ℕ) (c : code_pending.Pending) (is_p : p.alternative ≡ code_alternative.Retries next end c) (q r : code.ChoicePoint) (n : ℕ) (size : n + 1 ≡ length points) (is_new : new ≡ slice_set points n q)
-    (is_q : q ≡ record p { alternative = code_alternative.Retries (next + 1) end c }) (is_r : r ≡ record p { alternative = code_alternative.Retries next (next + 1) c }) (more : 1 < end - next) where
+      (is_q : q ≡ record p { alternative = code_alternative.Retries (next + 1) end c }) (is_r : r ≡ record p { alternative = code_alternative.Retries next (next + 1) c }) (more : 1 < end - next) where
     pub clause : IsTaken (as_points notes points) (as_point notes r) (as_points notes new)
     clause =
         let older = as_points notes at_end.older in

@@ -3,6 +3,7 @@ ghost use Rattle.std.specs.Prelude.{ℕ};
 ghost use Rattle.prog_data.specs.declared.programs.Program.{Program};
 ghost use Rattle.machine_model.specs.Tests.{Tests};
 ghost use Rattle.engine_state.specs.Fewest.{FewestFalls};
+ghost use Rattle.engine_state.specs.Moments.{MomentsStay};
 ghost use Rattle.engine_state.specs.Notes.{NotesStay};
 ghost use Rattle.engine_state.specs.Laws.{ChoicesStay, FramesFollow, FreesAreNew, NewPoints, PointsCut, PointsExit, TermsAreBelow};
 
@@ -49,4 +50,9 @@ pub fn exit_law()
 /// The variables of a place's term are cells.
 pub fn below_law()
     ensures { TermsAreBelow }
+{}
+
+/// The cells, links and notes that links and choice points name are there, now and at the moment of each choice point.
+pub fn moments_law()
+    ensures { (program : Program) → MomentsStay program }
 {}
