@@ -1,8 +1,8 @@
 -- The variables of a heap's terms are cells that are there.
-use Rattle.std.proofs.Common.{◌≡◌, ◌≤◌, ◌<◌, ◌⊎◌, inl, inr, ℕ, zero, suc, ◌+◌, Bool, true, false, ◌||◌, List, [], ◌∷◌, map, refl, sym, ap, ◌∙◌, arith, true≢false}
+use Rattle.std.proofs.Common.{◌≡◌, ◌≤◌, ◌<◌, ◌⊎◌, inl, inr, ℕ, zero, suc, ◌+◌, Bool, true, List, map, refl, sym, ap, ◌∙◌, arith, true≢false}
 use Rattle.std.proofs.lemmas.Bool.{cases_eq, or_cases, ne_eqb}
 use Rattle.std.specs.List.{list_any}
-use Rattle.term_core.specs.declared.terms.Term.{Term, Node}
+use Rattle.term_core.specs.declared.terms.Term.{Term}
 use Rattle.term_core.specs.Terms.{occurs, occurs_step}
 use Rattle.term_core.proofs.TermFolds.{fold-Int, fold-Atom}
 use Rattle.term_core.proofs.Occurrences.{occurs-Node, occurs-Var}

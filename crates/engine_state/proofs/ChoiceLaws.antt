@@ -1,14 +1,14 @@
 -- What leaves the choices as they are.
-use Rattle.std.proofs.Common.{◌≡◌, ◌≤◌, ◌<◌, ◌⊎◌, inl, inr, ℕ, zero, suc, ◌+◌, List, [], ◌∷◌, ◌++◌, map, length, refl, sym, ap, ◌∙◌, arith}
+use Rattle.std.proofs.Common.{◌≡◌, ◌≤◌, ◌<◌, ◌⊎◌, inl, inr, ℕ, suc, List, [], ◌∷◌, ◌++◌, map, length, refl, sym, ap, ◌∙◌, arith}
 use Rattle.std.proofs.lemmas.Bool.{cases_lt}
 use Rattle.term_core.specs.declared.terms.Term.{Term}
 use Rattle.prog_data.specs.declared.programs.Clause.{Clause}
-use Rattle.machine_model.specs.State.{Call, Choice, Resume, Try}
+use Rattle.machine_model.specs.State.{Call, Resume, Try}
 use Rattle.machine_model.specs.Step.{tries}
 use Rattle.term_heap.specs.Changes.{Change, value_of, places, undone}
 use Rattle.term_heap.proofs.HistoryLaws.{undone_here, undone_more}
 use Rattle.term_heap.proofs.PastLaws.{lengths_stay}
-use Rattle.engine_state.specs.Engines.{Task, Link, chain, Alternative, Resumes, Retries, Marks, ChoicePoint, frame_with, call_with, alternative_choices, point_choices, choices_of, AreInOrder, rest_of, AreHeld}
+use Rattle.engine_state.specs.Engines.{Link, chain, Alternative, Resumes, Retries, Marks, ChoicePoint, frame_with, call_with, alternative_choices, point_choices, choices_of, AreInOrder, rest_of, AreHeld}
 
 -- changes of the heap
 

@@ -5,7 +5,6 @@ use Rattle.prog_data.specs.declared.events.Ending.{Ending}
 use Rattle.machine_model.specs.State.{State, Phase, Going, Over}
 use Rattle.machine_model.specs.Tests.{Tests}
 use Rattle.machine_model.specs.Step.{step}
-use Rattle.machine_model.specs.Run.{steps}
 use Rattle.engine_state.specs.Fewest.{fewest_steps, IsOverAfter, FewestFalls}
 
 going_over : (s : State) (e : Ending) → Going s ≡ Over e → ⊥

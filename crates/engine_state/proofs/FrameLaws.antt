@@ -1,5 +1,5 @@
 -- What new values do to frames, and what free cells are.
-use Rattle.std.proofs.Common.{◌≡◌, ◌≤◌, ◌<◌, ℕ, zero, suc, ◌+◌, ◌⊎◌, inl, inr, List, [], ◌∷◌, ◌++◌, map, length, replicate, refl, sym, ap, ◌∙◌, arith}
+use Rattle.std.proofs.Common.{◌≡◌, ◌≤◌, ℕ, zero, suc, ◌+◌, ◌⊎◌, inl, inr, List, [], ◌∷◌, map, length, replicate, refl, sym, ap, ◌∙◌, arith}
 use Rattle.std.specs.Prelude.{if◌then◌else◌}
 use Rattle.std.proofs.lemmas.Bool.{cases_eq, eq-eqb, ne_eqb}
 use Rattle.std.proofs.lemmas.List.{length-set, length-append}
@@ -9,7 +9,7 @@ use Rattle.term_core.proofs.TermLaws.{map_map}
 use Rattle.term_core.proofs.Occurrences.{replace-Var}
 use Rattle.prog_data.specs.declared.goals.Goal.{Goal}
 use Rattle.prog_data.specs.Goals.{goal_instance}
-use Rattle.machine_model.specs.State.{Item, Does, CutTo, Exits, item_instance, frame_instance}
+use Rattle.machine_model.specs.State.{Does, Exits, item_instance, frame_instance}
 use Rattle.term_heap.specs.declared.cells.Cell.{Cell}
 use Rattle.term_heap.specs.declared.cells.Cell.TheVariants.{Free, Ref}
 use Rattle.term_heap.specs.Changes.{Change, Grows, Binds, cells_of, size_of, value_of, grown, with_value, cell_term, places, IsMade}

@@ -5,14 +5,12 @@ use Rattle.std.specs.List.{AllByRecursion}
 use Rattle.engine_state.specs.declared.tasks.Row.{Row}
 use Rattle.engine_state.specs.declared.tasks.Task as code_task
 use Rattle.engine_state.specs.declared.tasks.Task.TheVariants as task
-use Rattle.engine_state.specs.declared.tasks.Link as code_link
 use Rattle.engine_state.specs.declared.points.Alternative as code_alternative
 use Rattle.engine_state.specs.declared.points.Alternative.TheVariants as alternative
-use Rattle.engine_state.specs.declared.points.ChoicePoint as code_point
-use Rattle.engine_state.specs.Engines.{Task, Leaves, Link, Alternative, Retries, Marks, ChoicePoint}
+use Rattle.engine_state.specs.Engines.{Leaves, Retries, Marks}
 use Rattle.term_heap.specs.Changes.{places}
-use Rattle.engine_state.specs.Views.{row_of, as_exit, as_task, as_link, as_links, as_alternative, as_point, as_points}
-use Rattle.engine_state.specs.Notes.{IsRowWithin, IsTaskNoted, IsAlternativeNoted, AreLinksNoted, ArePointsNoted, NotesStay}
+use Rattle.engine_state.specs.Views.{row_of, as_exit, as_task, as_link, as_alternative, as_point}
+use Rattle.engine_state.specs.Notes.{IsRowWithin, IsTaskNoted, IsAlternativeNoted, NotesStay}
 
 -- part of a front, seen in the whole
 within_front : (first count held : ℕ) (xs : List ℕ) → first + count ≤ held → take count (drop first (take held xs)) ≡ take count (drop first xs)

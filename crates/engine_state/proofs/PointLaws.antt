@@ -1,5 +1,5 @@
 -- The newest choice point, and what is taken off it.
-use Rattle.std.proofs.Common.{◌≡◌, ◌≤◌, ◌<◌, ℕ, zero, suc, ◌+◌, ◌-◌, max, List, [], ◌∷◌, ◌++◌, map, length, take, drop, reverse, get_or, refl, sym, ap, subst, ◌∙◌, arith}
+use Rattle.std.proofs.Common.{◌≡◌, ◌≤◌, ◌<◌, ℕ, zero, suc, ◌+◌, ◌-◌, max, List, [], ◌∷◌, ◌++◌, map, length, take, drop, get_or, refl, sym, ap, subst, ◌∙◌, arith}
 use Rattle.std.specs.Prelude.{if◌then◌else◌, slice_set}
 use Rattle.std.proofs.lemmas.Bool.{le-leb, lt-leb}
 use Rattle.std.proofs.lemmas.List.{length-append, reverse-append, take_all, take_at, take_more, set_at}
@@ -8,8 +8,8 @@ use Rattle.engine_state.specs.declared.points.ChoicePoint as code
 use Rattle.engine_state.specs.declared.points.Pending as code_pending
 use Rattle.engine_state.specs.declared.points.Alternative as code_a
 use Rattle.engine_state.specs.declared.points.Alternative.TheVariants as code_alternative
-use Rattle.engine_state.specs.Engines.{Pending, Retries, ChoicePoint, choices_of, AreInOrder, AreHeld}
-use Rattle.engine_state.specs.Stacks.{width, height_of, AreCounted, shortened, cut_points, IsTaken}
+use Rattle.engine_state.specs.Engines.{Pending, Retries, ChoicePoint}
+use Rattle.engine_state.specs.Stacks.{width, height_of, shortened, cut_points, IsTaken}
 use Rattle.engine_state.specs.Views.{as_alternative, as_pending, as_point, as_points}
 use Rattle.engine_state.specs.Newest.{IsNewest, held_links}
 

@@ -1,6 +1,6 @@
 -- What the engine holds, over the cells of a heap, and the state that it is.
 -- The headline does not rest on this file.
-use Rattle.std.specs.Prelude.{◌≡◌, ◌≤◌, ℕ, suc, ◌==◌, Bool, List, [], ◌∷◌, map, length, Option, if◌then◌else◌, flat_map, ⊤}
+use Rattle.std.specs.Prelude.{◌≤◌, ℕ, suc, ◌==◌, Bool, List, [], ◌∷◌, map, length, Option, if◌then◌else◌, flat_map, ⊤}
 use Rattle.term_core.specs.declared.terms.Term.{Term}
 use Rattle.prog_data.specs.declared.goals.Goal.{Goal}
 use Rattle.prog_data.specs.declared.programs.Place.{Place}

@@ -1,7 +1,6 @@
 -- What holds of links and choice points now, and at the moment of each choice point: the cells, links and notes that they name were there.
 -- The headline does not rest on this file.
 use Rattle.std.specs.Prelude.{◌≡◌, ◌≤◌, ◌+◌, ◌-◌, ℕ, true, List, [], ◌∷◌, ◌++◌, drop, length, ⊤}
-use Rattle.std.specs.List.{AllByRecursion}
 use Rattle.prog_data.specs.declared.programs.Program.{Program}
 use Rattle.prog_data.specs.Ranges.{is_goal_of}
 use Rattle.term_heap.specs.Changes.{Change, size_of, undone}

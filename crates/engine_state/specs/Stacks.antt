@@ -1,7 +1,6 @@
 -- What is done to links and choice points.
 -- The headline does not rest on this file.
-use Rattle.std.specs.Prelude.{◌≡◌, ◌≤◌, ℕ, suc, ◌+◌, ◌-◌, ◌==◌, nat_le, Bool, true, List, [], ◌∷◌, ◌++◌, length, drop, if◌then◌else◌, ⊤}
-use Rattle.machine_model.specs.State.{Choice}
+use Rattle.std.specs.Prelude.{◌≡◌, ◌≤◌, ℕ, ◌+◌, ◌-◌, ◌==◌, nat_le, true, List, [], ◌∷◌, ◌++◌, length, drop, if◌then◌else◌, ⊤}
 use Rattle.term_heap.specs.Changes.{Change}
 use Rattle.engine_state.specs.Engines.{Task, Link, chain, Alternative, Resumes, Retries, Marks, ChoicePoint, point_choices, choices_of, AreInOrder, AreHeld}
 

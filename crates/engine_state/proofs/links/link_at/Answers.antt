@@ -1,4 +1,4 @@
-use Rattle.std.proofs.Common.{◌≡◌, ◌<◌, ◌+◌, ◌-◌, [], length, refl, sym, subst, arith}
+use Rattle.std.proofs.Common.{◌≡◌, ◌<◌, ◌-◌, [], length, sym, subst, arith}
 use Rattle.engine_state.specs.Engines.{chain}
 use Rattle.engine_state.specs.Views.{as_links}
 use Rattle.engine_state.proofs.LinkLaws.{chain_none, chain_past, length_links, looked_at}

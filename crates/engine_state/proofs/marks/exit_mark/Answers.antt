@@ -1,4 +1,4 @@
-use Rattle.std.proofs.Common.{◌≡◌, refl, ap, subst, ◌∙◌}
+use Rattle.std.proofs.Common.{refl, ap, subst, ◌∙◌}
 use Rattle.engine_state.specs.Newest.{AreElsewhere, IsFound}
 use Rattle.engine_state.specs.Views.{as_point}
 use Rattle.engine_state.proofs.MarkLaws.{exit_nowhere, exit_found}
