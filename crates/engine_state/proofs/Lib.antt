@@ -5,6 +5,7 @@ mod ExitLaws
 mod FewestLaws
 mod FrameLaws
 mod GoalInstances
+mod GroundLaws
 mod LinkLaws
 mod MarkLaws
 mod MomentLaws
