@@ -1,0 +1,13 @@
+mod BelowLaws
+mod ChoiceLaws
+mod CutLaws
+mod ExitLaws
+mod FewestLaws
+mod FrameLaws
+mod GoalInstances
+mod GroundLaws
+mod LinkLaws
+mod MarkLaws
+mod MomentLaws
+mod NoteLaws
+mod PointLaws
