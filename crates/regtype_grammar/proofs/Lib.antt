@@ -1,0 +1,14 @@
+mod BelowLaws
+mod ClauseLaws
+mod DeclarationLaws
+mod EachLaws
+mod FaultLaws
+mod GrowingLaws
+mod ListRange
+mod MadeLaws
+mod PartLaws
+mod PartLoops
+mod Rows
+mod RulingLaws
+mod SayingLoop
+mod SeenLaws

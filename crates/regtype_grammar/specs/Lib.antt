@@ -1,0 +1,7 @@
+pub mod Lists
+pub mod TypeNames
+pub mod Declarations
+pub mod TypeClauses
+pub mod TypeFaults
+pub mod TermRules
+pub mod Grammars
