@@ -4,6 +4,7 @@ mod DeclarationLaws
 mod EachLaws
 mod FaultLaws
 mod GrowingLaws
+mod ListLaws
 mod ListRange
 mod MadeLaws
 mod PartLaws

@@ -1,12 +1,11 @@
 -- A grammar in range stays so where the lists of one of its names are added.
-use Rattle.std.proofs.Common.{◌≡◌, ℕ, zero, suc, ◌+◌, ◌<◌, ◌≤◌, nat_lt, Bool, true, false, List, [], ◌∷◌, ◌++◌, take, length, min, refl, ap, sym, ◌∙◌, subst, arith}
+use Rattle.std.proofs.Common.{◌≡◌, ℕ, zero, suc, ◌+◌, ◌<◌, ◌≤◌, nat_lt, Bool, true, false, List, [], ◌∷◌, ◌++◌, take, length, refl, ap, sym, ◌∙◌, subst, arith}
 use Rattle.std.specs.Prelude.{cond, Option, Some, None}
 use Rattle.std.specs.List.{list_all, AllByRecursion}
 use Rattle.std.proofs.lemmas.Bool.Decides.{nat_tests}
-use Rattle.std.proofs.lemmas.List.{length-append, length-take}
+use Rattle.std.proofs.lemmas.List.{length-append}
 use Rattle.prog_data.specs.declared.grammars.Rule.{Rule}
 use Rattle.prog_data.specs.declared.grammars.Grammar.{Grammar}
-use Rattle.prog_data.specs.BasicNames.{basic_grammar}
 use Rattle.prog_data.specs.GrammarRange.{names_in, is_rule_of, IsGrammar}
 use Rattle.term_operands.proofs.OperandLaws.{none_part, some_part}
 use Rattle.regtype_grammar.specs.Lists.{most_names, list_rules, are_list_rules, list_from, found_list, Listed, with_list, found_or_added, list_of, ListsStayInRange}
@@ -15,7 +14,7 @@ use Rattle.regtype_grammar.proofs.BelowLaws.{IsRuleBelow, AreRulesBelow, AllRule
 use Rattle.regtype_grammar.proofs.MadeLaws.{rules_test}
 
 -- the rules of a grammar, by what is below its number of names
-pub rules_below : (size : ℕ) (rules : List (List Rule)) → list_all (list_all (is_rule_of size)) rules ≡ true → AllRulesBelow size rules
+rules_below : (size : ℕ) (rules : List (List Rule)) → list_all (list_all (is_rule_of size)) rules ≡ true → AllRulesBelow size rules
 rules_below size rules e = test_each (AreRulesBelow size) (list_all (is_rule_of size)) (λ rs i. test_each (IsRuleBelow size) (is_rule_of size) rule rs i) rules e
   where
     less : (n : ℕ) → nat_lt n size ≡ true → n < size
@@ -34,11 +33,13 @@ take_front zero xs ys le = refl
 take_front (suc k) [] ys le = let no : suc k ≤ 0 = le in absurd (omega (arith, no))
 take_front (suc k) (x ∷ xs) ys le = let longer : suc k ≤ suc (length xs) = le in ap (λ zs. x ∷ zs) (take_front k xs ys (omega (arith, longer)))
 
-pub ten_names : (g : Grammar) → IsGrammar g → 10 ≤ length g.rules
-ten_names g h =
-    let front : length (take 10 g.rules) ≡ 10 = ap length h.basic in
-    let least : length (take 10 g.rules) ≡ min 10 (length g.rules) = length-take 10 g.rules in
-    omega (arith, front, least)
+as_long : {A : Type 0} (k : ℕ) (xs : List A) → length (take k xs) ≡ k → k ≤ length xs
+as_long zero xs e = omega arith
+as_long (suc k) [] e = let no : 0 ≡ suc k = e in absurd (omega (arith, no))
+as_long (suc k) (x ∷ xs) e = let more : suc (length (take k xs)) ≡ suc k = e in let rest : k ≤ length xs = as_long k xs (omega (arith, more)) in omega (arith, rest)
+
+ten_names : (g : Grammar) → IsGrammar g → 10 ≤ length g.rules
+ten_names g h = as_long 10 g.rules (ap length h.basic)
 
 -- a name that was found is one of the names
 found_below : (element at : ℕ) (rules : List (List Rule)) (name : ℕ) → list_from element at rules ≡ Some name → name < at + length rules

@@ -12,13 +12,12 @@ use Rattle.prog_data.specs.GrammarRange.{names_in, is_rule_of, IsGrammar}
 use Rattle.term_operands.proofs.OperandLaws.{none_part, some_part}
 use Rattle.regtype_grammar.specs.declared.meanings.Meaning.{Meaning}
 use Rattle.regtype_grammar.specs.declared.modules.RegType.{RegType}
+use Rattle.regtype_grammar.specs.declared.modules.SeenType.{SeenType}
 use Rattle.regtype_grammar.specs.declared.modules.TypeModule.{TypeModule}
-use Rattle.regtype_grammar.specs.declared.modules.TypeFault.{TypeFault}
-use Rattle.regtype_grammar.specs.declared.modules.TypeFault.TheVariants.{BadRegtype, UnknownProperty, Ambiguous, TooManyNames, NoMemory}
 use Rattle.regtype_grammar.specs.declared.grammars.Making.{Making}
 use Rattle.regtype_grammar.specs.Lists.{most_names}
 use Rattle.regtype_grammar.specs.TypeNames.{count_types, first_names, number_of, numbered, meaning, are_seen}
-use Rattle.regtype_grammar.specs.Grammars.{number, with_type, with_types, with_module, with_modules, nothing_made, made, made_rules, grammar_by, grammar_of, AllFit}
+use Rattle.regtype_grammar.specs.Grammars.{number, with_clauses, with_type, with_types, with_module, with_modules, nothing_made, made, made_rules, grammar_by, grammar_of, AllFit}
 use Rattle.regtype_grammar.proofs.EachLaws.{each_append, each_test, each_more}
 use Rattle.regtype_grammar.proofs.SeenLaws.{numbers_below, meant_below}
 use Rattle.regtype_grammar.proofs.BelowLaws.{IsRuleBelow, AreRulesBelow, AllRulesBelow, MakingBelow, modules_made}
@@ -30,11 +29,11 @@ own_types first means m [] = omega arith
 own_types first means m (t ∷ ts) =
     let after = with_type first means m t in
     let rest : length (with_types first means after ts).own ≡ length after.own + length ts = own_types first means after ts in
-    let one : length after.own ≡ length m.own + 1 = length-append m.own _ in
+    let one : length after.own ≡ length m.own + 1 = length-append m.own ((with_clauses first means t.name (record { rules = []; known = m.known; further = m.further }) t.clauses).rules ∷ []) in
     let more : length (t ∷ ts) ≡ suc (length ts) = refl in
     omega (arith, rest, one, more)
 
-own_modules : (first : ℕ) (firsts : List ℕ) (m : Making) (ms : List TypeModule) → length (with_modules first firsts m ms).own ≡ length m.own + count_types ms
+pub own_modules : (first : ℕ) (firsts : List ℕ) (m : Making) (ms : List TypeModule) → length (with_modules first firsts m ms).own ≡ length m.own + count_types ms
 own_modules first firsts m [] = omega arith
 own_modules first firsts m (one ∷ rest) =
     let after = with_module first firsts m one in
@@ -52,18 +51,24 @@ made_length modules =
 
 -- where there is room
 
+at_most : (n : ℕ) → nat_le n 512 ≡ true → n ≤ 512
+at_most n e = grind (arith, nat_tests, e)
+
 many : (n : ℕ) → 512 < n → nat_le n most_names ≡ false
 many n lt = by (nat_le n most_names) refl
   where
     by : (b : Bool) → nat_le n most_names ≡ b → b ≡ false
     by false e = refl
-    by true e = let le : n ≤ 512 = grind (arith, nat_tests, e) in absurd (omega (arith, lt, le))
+    by true e = let le : n ≤ 512 = at_most n e in absurd (omega (arith, lt, le))
 
 few : (n : ℕ) → n ≤ 512 → nat_le n most_names ≡ true
-few n le = grind (arith, nat_tests, le)
+few n le = let test : nat_le n 512 ≡ true = grind (arith, nat_tests, le) in test
+
+abbrev with_rules : List (List Rule) → Grammar
+with_rules rules = record { rules = rules }
 
 none_by : (modules : List TypeModule) → 512 < length (made_rules (made modules)) → None ≡ grammar_of modules
-none_by modules lt = ap (λ b. cond b (Some (record { rules = made_rules (made modules) })) None) (sym (many (length (made_rules (made modules))) lt))
+none_by modules lt = ap (λ b. cond b (Some (with_rules (made_rules (made modules)))) None) (sym (many (length (made_rules (made modules))) lt))
 
 -- there are too many types, or too many further names
 pub no_room_for_types : (modules : List TypeModule) → 512 < count_types modules + 10 → None ≡ grammar_of modules
@@ -89,15 +94,12 @@ module _ (modules : List TypeModule) (first : ℕ) (firsts : List ℕ) (start : 
       let same : length m.further ≡ length (made modules).further = ap (λ x. length x.further) making in
       let le : length m.further + first ≤ 512 = fits.1 in
       ap (λ rules. Some (with_rules rules)) (is ∙ ap made_rules making) ∙ ap (λ b. cond b (Some (with_rules (made_rules (made modules)))) None) (sym (few (length (made_rules (made modules))) (omega (arith, l, same, le, is_first))))
-    where
-      with_rules : List (List Rule) → Grammar
-      with_rules rules = record { rules = rules }
 
 -- a module's types are made where its own are
-pub module_fits : (first : ℕ) (firsts : List ℕ) (m : Making) (one : TypeModule) (seen : List Seen) (types : List RegType) (made : Option Making) → seen ≡ numbered firsts one.visible → types ≡ one.types
-    → AllFit first (with_types first (meaning seen) m types) made → AllFit first (with_module first firsts m one) made
-module_fits first firsts m one seen types made e f h =
-    subst (λ ts. AllFit first (with_types first (meaning (numbered firsts one.visible)) m ts) made) f (subst (λ s. AllFit first (with_types first (meaning s) m types) made) e h)
+pub module_fits : (first : ℕ) (firsts : List ℕ) (m : Making) (one : TypeModule) (seen : List Seen) (types : List RegType) (o : Option Making) → seen ≡ numbered firsts one.visible → types ≡ one.types
+    → AllFit first (with_types first (meaning seen) m types) o → AllFit first (with_module first firsts m one) o
+module_fits first firsts m one seen types o e f h =
+    subst (λ ts. AllFit first (with_types first (meaning (numbered firsts one.visible)) m ts) o) f (subst (λ s. AllFit first (with_types first (meaning s) m types) o) e h)
 
 -- the grammar is in range
 
@@ -129,16 +131,30 @@ basic_rules_below size ten =
     )
 
 module _ (modules : List TypeModule) (seen : are_seen modules ≡ true) where
-  made_in_range : length (made_rules (made modules)) ≤ 512 → IsGrammar (record { rules = made_rules (made modules) })
+  -- the types that are seen in a module, and what names mean there, are below a number
+  abbrev AreSeenBelow : ℕ → TypeModule → Type 0
+  AreSeenBelow n one = AllByRecursion (λ s. number_of (first_names modules) s < n) one.visible
+
+  abbrev IsMeantBelow : ℕ → TypeModule → Type 0
+  IsMeantBelow n one = (name : ℕ) → number (meaning (numbered (first_names modules) one.visible) name) < n
+
+  meant_each : (size : ℕ) → 10 ≤ size → 10 + count_types modules ≤ size → AllByRecursion (IsMeantBelow size) modules
+  meant_each size ten types = each_more (AreSeenBelow (10 + count_types modules)) (IsMeantBelow size) meant modules (numbers_below modules seen)
+    where
+      below : (s : SeenType) → number_of (first_names modules) s < 10 + count_types modules → number_of (first_names modules) s < size
+      below s lt = omega (arith, lt, types)
+
+      meant : (one : TypeModule) → AreSeenBelow (10 + count_types modules) one → IsMeantBelow size one
+      meant one h = meant_below size ten (first_names modules) one.visible (each_more (λ s. number_of (first_names modules) s < 10 + count_types modules) (λ s. number_of (first_names modules) s < size) below one.visible h)
+
+  made_in_range : length (made_rules (made modules)) ≤ 512 → IsGrammar (with_rules (made_rules (made modules)))
   made_in_range le =
       let size = length (made_rules (made modules)) in
       let l : size ≡ 10 + (count_types modules + length (made modules).further) = made_length modules in
       let ten : 10 ≤ size = omega (arith, l) in
       let types : 10 + count_types modules ≤ size = omega (arith, l) in
-      let means = each_more _ (λ one. (name : ℕ) → number (meaning (numbered (first_names modules) one.visible) name) < size)
-          (λ one h. meant_below size ten (first_names modules) one.visible (each_more _ (λ s. number_of (first_names modules) s < size) (λ s lt. let b : number_of (first_names modules) s < 10 + count_types modules = lt in omega (arith, b, types)) one.visible h)) modules (numbers_below modules seen) in
       let nine : 9 < size = omega (arith, l) in
-      let below = modules_made size (omega (arith, ten)) (count_types modules + 10) (first_names modules) nothing_made modules means (record { own = tt; known = (nine, tt); further = tt }) (omega (arith, l)) in
+      let below = modules_made size (omega (arith, ten)) (count_types modules + 10) (first_names modules) nothing_made modules (meant_each size ten types) (record { own = tt; known = (nine, tt); further = tt }) (omega (arith, l)) in
       record {
         basic = refl;
         few = le;
@@ -149,6 +165,6 @@ module _ (modules : List TypeModule) (seen : are_seen modules ≡ true) where
   pub grammar_in_range : (g : Grammar) → grammar_of modules ≡ Some g → IsGrammar g
   grammar_in_range g e = by (nat_le (length (made_rules (made modules))) most_names) refl e
     where
-      by : (b : Bool) → nat_le (length (made_rules (made modules))) most_names ≡ b → cond b (Some (record { rules = made_rules (made modules) })) None ≡ Some g → IsGrammar g
+      by : (b : Bool) → nat_le (length (made_rules (made modules))) most_names ≡ b → cond b (Some (with_rules (made_rules (made modules)))) None ≡ Some g → IsGrammar g
       by false i e = absurd (none_part g e)
-      by true i e = let le : length (made_rules (made modules)) ≤ 512 = grind (arith, nat_tests, i) in subst IsGrammar (some_part _ g e) (made_in_range le)
+      by true i e = subst IsGrammar (some_part (with_rules (made_rules (made modules))) g e) (made_in_range (at_most (length (made_rules (made modules))) i))

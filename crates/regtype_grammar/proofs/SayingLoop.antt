@@ -1,8 +1,9 @@
 -- A loop over terms that collects what each of them says.
-use Rattle.std.proofs.Common.{◌≡◌, List, [], ◌∷◌, ◌++◌, refl, ap, sym, ◌∙◌}
+use Rattle.std.proofs.Common.{◌≡◌, List, [], ◌∷◌, ◌++◌, ap, sym, ◌∙◌}
 use Rattle.std.specs.Prelude.{Option, Some, None, option_map}
 use Rattle.std.proofs.lemmas.List.{append_assoc}
 use Rattle.term_operands.specs.Operands.{before_all}
+use Rattle.regtype_grammar.proofs.PartLoops.{with_nothing}
 
 module _ {A : Type 0} where
   -- what was said before what the others say
@@ -13,10 +14,6 @@ module _ {A : Type 0} where
   said_turn said new x o None e p = ap (λ q. put_before said (before_all q None)) (sym e)
   said_turn said new x o (Some xs) e p =
       ap (λ ys. Some (ys ++ xs)) p ∙ ap Some (append_assoc said (x ∷ []) xs) ∙ ap (λ q. put_before said (before_all q (Some xs))) (sym e)
-
-  with_nothing : (xs : List A) → xs ≡ xs ++ []
-  with_nothing [] = refl
-  with_nothing (x ∷ xs) = ap (λ ys. x ∷ ys) (with_nothing xs)
 
   pub said_end : (said : List A) → Some said ≡ put_before said (Some [])
   said_end said = ap Some (with_nothing said)

@@ -22,7 +22,7 @@ at_most : (a b : ℕ) → nat_le a b ≡ true → a ≤ b
 at_most a b e = grind (arith, nat_tests, e)
 
 few : (a b : ℕ) → a < b → b ≤ 512 → nat_le a 512 ≡ true
-few a b lt le = grind (arith, nat_tests, lt, le)
+few a b lt le = let most : a ≤ 512 = omega (arith, lt, le) in grind (arith, nat_tests, most)
 
 -- the turn of the loop over modules
 pub starts_turn : (firsts new : List ℕ) (n after k : ℕ) (m : TypeModule) (ms : List TypeModule) (all : List ℕ) → new ≡ firsts ++ n ∷ [] → after ≡ n + k → k ≡ length m.types → firsts ++ starts n (m ∷ ms) ≡ all

@@ -1,4 +1,5 @@
 pub mod Lists
+pub mod ListTerms
 pub mod TypeNames
 pub mod Declarations
 pub mod TypeClauses

@@ -291,7 +291,7 @@ fn joined(alloc: Global, making: Making) -> Result<Grammar, NoMemory>
     let mut grammar = basic_grammar(alloc)?;
     let Making {
         own,
-        known: _,
+        known: _known,
         further,
     } = making;
     grammar.rules.append(own)?;

@@ -1,6 +1,7 @@
 // The lists of an element.
 ghost use Rattle.std.specs.Prelude.{◌≡◌, ◌<◌, ◌≤◌, ◌^◌, ◌∷◌, [], length, Some, None, IfOk, IfErr, OnErr};
 ghost use Rattle.regtype_grammar.specs.Lists.{list_rules, are_both, is_nil, is_cell, are_list_rules, list_from, found_list, Listed, list_of, ListsStayInRange, IsListFault};
+ghost use Rattle.regtype_grammar.specs.ListTerms.{ListsAreLists};
 
 use crate::TypeFault;
 use prog_data::{Grammar, Rule};
@@ -105,3 +106,8 @@ pub fn list_of(alloc: Global, grammar: &mut Grammar, element: u64) -> Result<u64
 {
     find_or_add(alloc, grammar, element)
 }
+
+/// What belongs to the lists of an element is exactly the proper lists of what belongs to the element.
+pub fn lists_law()
+    ensures { ListsAreLists }
+{}

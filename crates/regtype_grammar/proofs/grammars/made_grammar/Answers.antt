@@ -11,20 +11,20 @@ use Rattle.regtype_grammar.proofs.grammars.made_grammar.Goals as goal
 pub returns-in-None : goal.returns-in-None
 returns-in-None c = no_room_for_types c.args.modules.now (MatchOption-at_none _ _ c.in-None.is c.in_ok-first_names.ensures)
 
-pub with_modules-requires-few : goal.with_modules-requires-few
-with_modules-requires-few c =
+pub with_modules-requires-clause-few : goal.with_modules-requires-clause-few
+with_modules-requires-clause-few c =
     let s = MatchOption-at_some _ _ _ c.in-Some.is c.in_ok-first_names.ensures in
     let behind : c.in-Some.first ≤ 512 = s.2 in
     subst (λ fs. list_all (λ m. are_few fs m.visible) c.args.modules.now ≡ true) (sym (c.as_slice.ensures ∙ s.0)) (all_few c.args.modules.now c.requires (subst (λ n. n ≤ 512) s.1 behind))
 
-pub returns-in-None-with_modules : goal.returns-in-None-with_modules
-returns-in-None-with_modules c =
+pub returns-in-None-2 : goal.returns-in-None-2
+returns-in-None-2 c =
     let s = MatchOption-at_some _ _ _ c.in-Some.is c.in_ok-first_names.ensures in
-    no_room c.args.modules.now c.in-Some.first c.as_slice.result.now c.in_ok-start.start s.1 (c.as_slice.ensures ∙ s.0) c.in_ok-start.ensures
-    (subst (AllFit c.in-Some.first (with_modules c.in-Some.first c.as_slice.result.now c.in_ok-start.start c.args.modules.now)) c.in-None-with_modules.is c.in_ok-with_modules.ensures)
+    no_room c.args.modules.now c.in-Some.first c.as_slice.result.now c.in_ok-start-in-Some.start s.1 (c.as_slice.ensures ∙ s.0) c.in_ok-start-in-Some.ensures
+    (subst (AllFit c.in-Some.first (with_modules c.in-Some.first c.as_slice.result.now c.in_ok-start-in-Some.start c.args.modules.now)) c.in-None-2.is c.in_ok-with_modules-in-Some.ensures)
 
-pub returns-in_ok-joined-in-Some-with_modules : goal.returns-in_ok-joined-in-Some-with_modules
-returns-in_ok-joined-in-Some-with_modules c =
+pub returns-in_ok-joined-in-Some-2 : goal.returns-in_ok-joined-in-Some-2
+returns-in_ok-joined-in-Some-2 c =
     let s = MatchOption-at_some _ _ _ c.in-Some.is c.in_ok-first_names.ensures in
-    room c.args.modules.now c.in-Some.first c.as_slice.result.now c.in_ok-start.start s.1 (c.as_slice.ensures ∙ s.0) c.in_ok-start.ensures c.in-Some-with_modules.making _
-    (subst (AllFit c.in-Some.first (with_modules c.in-Some.first c.as_slice.result.now c.in_ok-start.start c.args.modules.now)) c.in-Some-with_modules.is c.in_ok-with_modules.ensures) c.in_ok-joined-in-Some-with_modules.ensures
+    room c.args.modules.now c.in-Some.first c.as_slice.result.now c.in_ok-start-in-Some.start s.1 (c.as_slice.ensures ∙ s.0) c.in_ok-start-in-Some.ensures c.in-Some-2.making _
+    (subst (AllFit c.in-Some.first (with_modules c.in-Some.first c.as_slice.result.now c.in_ok-start-in-Some.start c.args.modules.now)) c.in-Some-2.is c.in_ok-with_modules-in-Some.ensures) c.in_ok-joined-in-Some-2.ensures

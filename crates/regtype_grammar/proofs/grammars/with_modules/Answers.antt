@@ -7,8 +7,8 @@ use Rattle.regtype_grammar.specs.Grammars.{with_module, with_modules, AllFit}
 use Rattle.regtype_grammar.proofs.RulingLaws.{modules_grow}
 use Rattle.regtype_grammar.proofs.grammars.with_modules.Goals as goal
 
-pub with_module-requires-few : goal.with_module-requires-few
-with_module-requires-few c =
+pub with_module-requires-clause-few : goal.with_module-requires-clause-few
+with_module-requires-clause-few c =
     let firsts = c.args.firsts.now in
     let modules = c.args.modules.now in
     (and_parts (are_few firsts c.one-item.result.visible) _ (sym (turn (list_all (λ m. are_few firsts m.visible)) modules c.loop-one.one-index c.one-item.result c.loop-one-test.true c.one-item.is) ∙ c.loop-one.invariant.2)).0
