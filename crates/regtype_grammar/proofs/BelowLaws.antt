@@ -78,7 +78,7 @@ module _ (size : ℕ) where
     constant_below : (r : Rule) → IsRuleBelow r → PartBelow (record { called = λ n. n; needs = 1; rule = λ n. r; inner = λ n. [] })
     constant_below r h = record { called = λ n le. let room : 1 + n ≤ size = le in omega (arith, room); rule = λ n le. h; inner = λ n le. tt }
 
-    pub part_below : (t : Term) → PartBelow (part_of f t)
+    part_below : (t : Term) → PartBelow (part_of f t)
     part_below = ind_terms (λ t. PartBelow (part_of f t))
         (λ v. subst PartBelow (sym (fold-Var Part (part_step f) v)) (record { called = λ n le. below v; rule = λ n le. (below v, tt); inner = λ n le. tt }))
         (λ k. subst PartBelow (sym (fold-Int Part (part_step f) k)) (constant_below ((part_step f (layer.Int k)).rule 0) tt))
@@ -188,7 +188,7 @@ module _ (size : ℕ) where
           let grows : length after.further ≤ length (with_clauses first means name after ss).further = clauses_grow first means name after ss in
           clauses_below name after ss (clause_below r (clause_of name s) h (omega (arith, grows, room))) fits
 
-  record MakingBelow (m : Making) : Type 0 where
+  pub record MakingBelow (m : Making) : Type 0 where
     pub own : AllRulesBelow m.own
     pub known : AreKnownBelow m.known
     pub further : AllRulesBelow m.further

@@ -128,7 +128,7 @@ module _ (g : Grammar) (element name : ℕ) (own : rules_of g name ≡ list_rule
     in_cell : {ts : List Term} {ns : List ℕ} → BelongEach g ts ns → ns ≡ element ∷ name ∷ [] → IsCellOf ts
     in_cell none e = cc
     in_cell (more a none) e = cc
-    in_cell (more {t} {ts} {n} {ns} a (more {u} {us} {m} {ms} b none)) e =
+    in_cell (more {t} {ts} {n} {ns} a (more {t = u} {n = m} b none)) e =
         let first : n ≡ element = cc in
         let second : m ≡ name = cc in
         record { first = t; rest = u; are = refl; item = subst (Belongs g t) first a; others = in_list b second }

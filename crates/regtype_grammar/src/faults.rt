@@ -266,11 +266,11 @@ fn least_of_types(
     Ok(least)
 }
 
-fn module_fault(alloc: Global, module: &TypeModule) -> Result<Option<Fault>, NoMemory>
-    ensures { IfOk result (λ fault. fault ≡ module_fault module.now) }
+fn module_fault(alloc: Global, one: &TypeModule) -> Result<Option<Fault>, NoMemory>
+    ensures { IfOk result (λ fault. fault ≡ module_fault one.now) }
 {
-    let seen = unnumbered(alloc, module.visible.as_slice())?;
-    least_of_types(alloc, seen.as_slice(), module.file, module.types.as_slice())
+    let seen = unnumbered(alloc, one.visible.as_slice())?;
+    least_of_types(alloc, seen.as_slice(), one.file, one.types.as_slice())
 }
 
 // A fault as it is told, with the position of its module.

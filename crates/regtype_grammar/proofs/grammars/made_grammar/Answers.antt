@@ -23,8 +23,8 @@ returns-in-None-2 c =
     no_room c.args.modules.now c.in-Some.first c.as_slice.result.now c.in_ok-start-in-Some.start s.1 (c.as_slice.ensures ∙ s.0) c.in_ok-start-in-Some.ensures
     (subst (AllFit c.in-Some.first (with_modules c.in-Some.first c.as_slice.result.now c.in_ok-start-in-Some.start c.args.modules.now)) c.in-None-2.is c.in_ok-with_modules-in-Some.ensures)
 
-pub returns-in_ok-joined-in-Some-2 : goal.returns-in_ok-joined-in-Some-2
-returns-in_ok-joined-in-Some-2 c =
+pub returns : goal.returns
+returns c =
     let s = MatchOption-at_some _ _ _ c.in-Some.is c.in_ok-first_names.ensures in
     room c.args.modules.now c.in-Some.first c.as_slice.result.now c.in_ok-start-in-Some.start s.1 (c.as_slice.ensures ∙ s.0) c.in_ok-start-in-Some.ensures c.in-Some-2.making _
     (subst (AllFit c.in-Some.first (with_modules c.in-Some.first c.as_slice.result.now c.in_ok-start-in-Some.start c.args.modules.now)) c.in-Some-2.is c.in_ok-with_modules-in-Some.ensures) c.in_ok-joined-in-Some-2.ensures

@@ -30,8 +30,8 @@ returns-in-None c =
     let full : 512 < c.loop-one.next + c.len.result = c.in-None.ensures in
     omega (arith, less, whole, count, full)
 
-pub returns-after-loop-one : goal.returns-after-loop-one
-returns-after-loop-one c =
+pub returns : goal.returns
+returns c =
     let modules = c.args.modules.now in
     let none : count_types (drop c.loop-one.one-index modules) ≡ 0 = at_drop_all count_types modules c.loop-one.one-index c.loop-one-test.false in
     let whole : c.loop-one.next + count_types (drop c.loop-one.one-index modules) ≡ count_types modules + 10 = c.loop-one.invariant.1 in (
