@@ -6,10 +6,14 @@ mod FaultLaws
 mod GrowingLaws
 mod ListLaws
 mod ListRange
+mod LiteralMeaning
 mod MadeLaws
 mod PartLaws
 mod PartLoops
+mod PartMeaning
 mod Rows
+mod RuleMeaning
 mod RulingLaws
 mod SayingLoop
 mod SeenLaws
+mod TypeMeaning

@@ -6,3 +6,4 @@ pub mod TypeClauses
 pub mod TypeFaults
 pub mod TermRules
 pub mod Grammars
+pub mod TypeTerms

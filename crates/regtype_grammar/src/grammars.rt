@@ -7,6 +7,7 @@ ghost use Rattle.regtype_grammar.specs.TypeFaults.{refused};
 ghost use Rattle.regtype_grammar.specs.Grammars.{AllFit, Fits, FitsLists, no_types, with_literals, with_rule_by, with_rule, with_clause, with_clauses, with_type, with_types, with_module, with_modules, nothing_made, made_rules, grammar_of, IsTypeFault};
 ghost use Rattle.regtype_grammar.specs.TypeClauses.{clause_of};
 ghost use Rattle.regtype_grammar.specs.TermRules.{names_needed};
+ghost use Rattle.regtype_grammar.specs.TypeTerms.{TypesHaveTheirTerms};
 
 use crate::clauses::clause_of;
 use crate::faults::refused;
@@ -338,3 +339,8 @@ pub fn grammar_of(
         },
     }
 }
+
+/// What belongs to a type is exactly what its clauses give.
+pub fn types_law()
+    ensures { TypesHaveTheirTerms }
+{}

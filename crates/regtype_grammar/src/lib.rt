@@ -16,7 +16,7 @@ mod terms;
 
 pub use clauses::clause_law;
 pub use declarations::{declaration_law, declared_type};
-pub use grammars::grammar_of;
+pub use grammars::{grammar_of, types_law};
 pub use lists::{list_of, lists_law};
 pub use meanings::{Meaning, meanings_law, type_meant};
 pub use modules::{RegType, SeenType, TypeFault, TypeModule};
