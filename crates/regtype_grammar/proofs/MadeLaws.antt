@@ -1,5 +1,5 @@
 -- The grammar that is made of modules: where there is room for it, and that it is in range.
-use Rattle.std.proofs.Common.{◌≡◌, ℕ, suc, ◌+◌, ◌<◌, ◌≤◌, nat_lt, nat_le, Bool, true, false, List, [], ◌∷◌, ◌++◌, map, length, refl, ap, sym, ◌∙◌, subst, arith}
+use Rattle.std.proofs.Common.{◌≡◌, ℕ, suc, ◌+◌, ◌<◌, ◌≤◌, nat_lt, nat_le, Bool, true, false, List, [], ◌∷◌, ◌++◌, length, refl, ap, sym, ◌∙◌, subst, arith}
 use Rattle.std.specs.Prelude.{cond, Option, Some, None}
 use Rattle.std.specs.List.{list_all, AllByRecursion}
 use Rattle.std.proofs.lemmas.Bool.Decides.{nat_tests}
@@ -17,10 +17,10 @@ use Rattle.regtype_grammar.specs.declared.modules.TypeModule.{TypeModule}
 use Rattle.regtype_grammar.specs.declared.grammars.Making.{Making}
 use Rattle.regtype_grammar.specs.Lists.{most_names}
 use Rattle.regtype_grammar.specs.TypeNames.{count_types, first_names, number_of, numbered, meaning, are_seen}
-use Rattle.regtype_grammar.specs.Grammars.{number, with_clauses, with_type, with_types, with_module, with_modules, nothing_made, made, made_rules, grammar_by, grammar_of, AllFit}
+use Rattle.regtype_grammar.specs.Grammars.{number, with_clauses, with_type, with_types, with_module, with_modules, nothing_made, made, made_rules, grammar_of, AllFit}
 use Rattle.regtype_grammar.proofs.EachLaws.{each_append, each_test, each_more}
 use Rattle.regtype_grammar.proofs.SeenLaws.{numbers_below, meant_below}
-use Rattle.regtype_grammar.proofs.BelowLaws.{IsRuleBelow, AreRulesBelow, AllRulesBelow, MakingBelow, modules_made}
+use Rattle.regtype_grammar.proofs.BelowLaws.{IsRuleBelow, AreRulesBelow, AllRulesBelow, modules_made}
 
 -- how many types there are
 

@@ -1,5 +1,5 @@
 -- A term belongs to the name of a part exactly where it has the part's shape.
-use Rattle.std.proofs.Common.{◌≡◌, ◌↔◌, ℕ, ℤ, zero, suc, ◌+◌, ◌-◌, List, [], ◌∷◌, ◌++◌, map, length, refl, ap, sym, ◌∙◌, subst, arith}
+use Rattle.std.proofs.Common.{◌≡◌, ◌↔◌, ℕ, ℤ, suc, ◌+◌, List, [], ◌∷◌, map, length, refl, ap, sym, ◌∙◌, subst}
 use Rattle.std.specs.List.{AllByRecursion}
 use Rattle.std.proofs.lemmas.List.{length-map}
 use Rattle.term_core.specs.declared.terms.Term.{Term, out-Term}
@@ -7,9 +7,8 @@ use Rattle.term_core.specs.declared.terms.Term as term
 use Rattle.term_core.specs.declared.terms.Term.TheOpen as layer
 use Rattle.term_core.specs.declared.terms.Term.TheVariants.{outs-Var, outs-Int, outs-Atom, outs-Node}
 use Rattle.term_core.proofs.TermFolds.{fold-Var, fold-Int, fold-Atom, fold-Node, ind_terms}
-use Rattle.prog_data.specs.declared.grammars.Rule.{Rule}
 use Rattle.prog_data.specs.declared.grammars.Grammar.{Grammar}
-use Rattle.prog_data.specs.Membership.{rules_of, Belongs, BelongEach, none, more}
+use Rattle.prog_data.specs.Membership.{Belongs, BelongEach, none, more}
 use Rattle.regtype_grammar.specs.TermRules.{Part, part_step, part_of, part_rules, all_called, all_rules}
 use Rattle.regtype_grammar.specs.TypeTerms.{Shaped, variable, integer, atom, compound, ShapedEach, no_shapes, more_shapes}
 use Rattle.regtype_grammar.proofs.PartLaws.{filled, inner_length}

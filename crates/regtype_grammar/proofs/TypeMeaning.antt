@@ -1,7 +1,6 @@
 -- A regular type has the terms that its clauses give.
 use Rattle.std.proofs.Common.{◌≡◌, ◌↔◌, ◌⊎◌, inl, inr, ℕ, zero, suc, ◌+◌, ◌-◌, nat_le, Bool, true, false, List, [], ◌∷◌, ◌++◌, map, length, refl, ap, sym, ◌∙◌, subst, arith}
 use Rattle.std.specs.Prelude.{cond, Option, Some, None, slice_get, slice_index_or}
-use Rattle.std.specs.List.{AllByRecursion}
 use Rattle.std.proofs.lemmas.List.{append_assoc, length-append, length-map}
 use Rattle.term_core.specs.declared.terms.Term.{Term}
 use Rattle.ciao_reader.specs.declared.sentences.Sentence.{Sentence}
@@ -26,7 +25,7 @@ use Rattle.regtype_grammar.specs.Grammars.{type_of, no_types, with_literals, wit
 use Rattle.regtype_grammar.specs.TypeTerms.{Shaped, MayStand, IsGivenBy, IsGiven, TypesHaveTheirTerms}
 use Rattle.regtype_grammar.proofs.PartLaws.{needs_is, inner_length}
 use Rattle.regtype_grammar.proofs.PartLoops.{single, with_nothing}
-use Rattle.regtype_grammar.proofs.LiteralMeaning.{Longer, longer_trans, AreLists, ListingMeans, clause_literals, variable_means}
+use Rattle.regtype_grammar.proofs.LiteralMeaning.{Longer, longer_trans, AreLists, clause_literals, variable_means}
 use Rattle.regtype_grammar.proofs.MadeLaws.{own_modules}
 use Rattle.regtype_grammar.proofs.PartMeaning.{shape_more, part_means}
 use Rattle.regtype_grammar.proofs.RuleMeaning.{SomeOf, Admits, belongs_some, some_belongs, Stand, stand_parts, all_stand}
@@ -115,8 +114,7 @@ module _ (g : Grammar) (any : rules_of g TERM_TYPE ≡ rule.Basic basic.Term ∷
         back u rest (inr e) = rest e
     sentence_means name r s ss (Some c) i known stand later =
         let one = rule_means r c known stand in
-        let rest = later one.all.known in
-        (
+        let rest = later one.all.known in (
           one.own ∷ rest.new,
           rest.rules ∙ ap (λ qs. qs ++ rest.new) one.all.rules ∙ append_assoc r.rules (one.own ∷ []) rest.new,
           rest.known,

@@ -5,7 +5,7 @@ use Rattle.std.specs.Ordering.{int_eq}
 use Rattle.term_core.specs.declared.fixed.TheConstants.{NECK, REGTYPE, HASH, SLASH}
 use Rattle.term_core.specs.declared.terms.Term.{Term, out-Term}
 use Rattle.term_core.specs.declared.terms.Term as term
-use Rattle.term_core.specs.declared.terms.Term.TheOpen.{Term-F, Var, Int, Atom, Node}
+use Rattle.term_core.specs.declared.terms.Term.TheOpen.{Term-F, Int, Atom, Node}
 use Rattle.term_core.specs.Terms.{is_variable}
 use Rattle.term_core.specs.Shapes.{single_of, split, with_mark}
 use Rattle.ciao_reader.specs.declared.sentences.Sentence.{Sentence}

@@ -1,8 +1,8 @@
 -- The lists of an element in a grammar.
 -- The headline does not rest on this file.
-use Rattle.std.specs.Prelude.{◌≡◌, ◌<◌, ℕ, suc, ◌==◌, nat_lt, Bool, true, false, ◌&&◌, List, [], ◌∷◌, ◌++◌, length, if◌then◌else◌, Option, Some, None}
+use Rattle.std.specs.Prelude.{◌≡◌, ◌<◌, ℕ, suc, ◌==◌, nat_lt, Bool, false, ◌&&◌, List, [], ◌∷◌, ◌++◌, length, if◌then◌else◌, Option, Some, None}
 use Rattle.prog_data.specs.declared.grammars.Rule.{Rule}
-use Rattle.prog_data.specs.declared.grammars.Rule.TheVariants.{Basic, Int, Atom, Node, Unit as UnitRule}
+use Rattle.prog_data.specs.declared.grammars.Rule.TheVariants.{Atom, Node}
 use Rattle.prog_data.specs.declared.grammars.Grammar.{Grammar}
 use Rattle.prog_data.specs.GrammarRange.{IsGrammar}
 use Rattle.regtype_grammar.specs.declared.modules.TypeFault.{TypeFault}

@@ -1,11 +1,11 @@
 -- The rules of a term: a name for each part of it that is no variable.
 -- The headline does not rest on this file.
-use Rattle.std.specs.Prelude.{ℕ, ℤ, zero, suc, ◌+◌, List, [], ◌∷◌, ◌++◌, length}
+use Rattle.std.specs.Prelude.{ℕ, zero, suc, ◌+◌, List, [], ◌∷◌, ◌++◌}
 use Rattle.term_core.specs.declared.terms.Term.{Term}
 use Rattle.term_core.specs.declared.terms.Term.TheOpen as layer
 use Rattle.term_core.specs.declared.terms.Term.TheFolds.{fold-Term}
 use Rattle.prog_data.specs.declared.grammars.Rule.{Rule}
-use Rattle.prog_data.specs.declared.grammars.Rule.TheVariants.{Basic, Int, Atom, Node, Unit as UnitRule}
+use Rattle.prog_data.specs.declared.grammars.Rule.TheVariants.{Int, Atom, Node, Unit as UnitRule}
 
 -- how many names the term needs where it is a part of another: one for each of its parts that is no variable, itself included
 abbrev pub total : List ℕ → ℕ

@@ -1,10 +1,10 @@
 -- The clauses of a regular type.
 -- The headline does not rest on this file.
-use Rattle.std.specs.Prelude.{◌≡◌, ◌↔◌, ℕ, ◌==◌, nat_eq, Bool, true, false, not, ◌&&◌, List, [], ◌∷◌, map, if◌then◌else◌, Option, Some, None, option_map}
+use Rattle.std.specs.Prelude.{◌≡◌, ◌↔◌, ℕ, ◌==◌, nat_eq, Bool, true, false, not, ◌&&◌, List, [], ◌∷◌, map, if◌then◌else◌, Option, Some, None}
 use Rattle.std.specs.List.{list_any, list_all}
 use Rattle.term_core.specs.declared.terms.Term.{Term, out-Term}
 use Rattle.term_core.specs.declared.terms.Term as term
-use Rattle.term_core.specs.declared.terms.Term.TheOpen.{Term-F, Var, Int, Atom, Node}
+use Rattle.term_core.specs.declared.terms.Term.TheOpen.{Term-F, Var, Node}
 use Rattle.term_core.specs.Terms.{occurrences, is_atom_of}
 use Rattle.term_core.specs.declared.fixed.TheConstants.{LIST, NECK, TRUE}
 use Rattle.term_core.specs.Shapes.{single_of, split, with_mark, atom_at}

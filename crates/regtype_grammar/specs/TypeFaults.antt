@@ -6,7 +6,7 @@ use Rattle.ciao_reader.specs.declared.sentences.Sentence.{Sentence}
 use Rattle.prog_data.specs.declared.programs.Place.{Place}
 use Rattle.regtype_grammar.specs.declared.literals.Literal.{Literal}
 use Rattle.regtype_grammar.specs.declared.meanings.Meaning.{Meaning}
-use Rattle.regtype_grammar.specs.declared.meanings.Meaning.TheVariants.{One, Unknown, Several}
+use Rattle.regtype_grammar.specs.declared.meanings.Meaning.TheVariants.{Unknown, Several}
 use Rattle.regtype_grammar.specs.declared.modules.RegType.{RegType}
 use Rattle.regtype_grammar.specs.declared.modules.TypeModule.{TypeModule}
 use Rattle.regtype_grammar.specs.declared.faults.Kind.{Kind}

@@ -10,7 +10,7 @@ use Rattle.regtype_grammar.specs.declared.literals.Literal.{Literal}
 use Rattle.regtype_grammar.specs.declared.meanings.Meaning.{Meaning}
 use Rattle.regtype_grammar.specs.declared.modules.RegType.{RegType}
 use Rattle.regtype_grammar.specs.declared.modules.TypeModule.{TypeModule}
-use Rattle.regtype_grammar.specs.TypeNames.{first_names, numbered, meaning, are_seen}
+use Rattle.regtype_grammar.specs.TypeNames.{first_names, numbered, meaning}
 use Rattle.regtype_grammar.specs.TypeClauses.{TypeClause, clause_of}
 use Rattle.regtype_grammar.specs.Grammars.{number, grammar_of}
 use Rattle.regtype_grammar.specs.ListTerms.{IsListOf}

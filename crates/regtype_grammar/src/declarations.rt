@@ -26,7 +26,13 @@ fn declared_at(shape: &Term) -> Option<u64>
     match shape {
         Term::Var(_) | Term::Int(_) | Term::Atom(_) => None,
         Term::Node(name, parts) => match parts.as_slice() {
-            [part] => { if part.is_variable() { Some(*name) } else { None } }
+            [part] => {
+                if part.is_variable() {
+                    Some(*name)
+                } else {
+                    None
+                }
+            }
             [left, right] => {
                 if *name == SLASH {
                     numbered_name(left, right)

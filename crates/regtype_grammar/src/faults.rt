@@ -285,10 +285,7 @@ fn told(position: u64, fault: Fault) -> TypeFault
 }
 
 /// The fault of the first module that has one.
-pub(crate) fn refused(
-    alloc: Global,
-    modules: &[TypeModule],
-) -> Result<Option<TypeFault>, NoMemory>
+pub(crate) fn refused(alloc: Global, modules: &[TypeModule]) -> Result<Option<TypeFault>, NoMemory>
     ensures { IfOk result (λ fault. fault ≡ refused modules.now) }
 {
     for (position, one) in modules.iter().enumerate() {

@@ -14,7 +14,10 @@ const ROWS: [(&str, &str); 45] = [
         ":- regtype tree/1.\ntree(leaf).\ntree(node(L,N,R)) :- tree(L), int(N), tree(R).",
         "10 leaf node/10/1/10;",
     ),
-    (":- regtype a(X).\na(X) :- int(X).\na(X).\na(X) :- true.", "10 =1 =0 =0;"),
+    (
+        ":- regtype a(X).\na(X) :- int(X).\na(X).\na(X) :- true.",
+        "10 =1 =0 =0;",
+    ),
     (":- regtype a/1.\na(-1).\na(f(_)).", "10 -1 f/0;"),
     (
         ":- regtype a/1.\na(f(X,Y,Z)) :- (int(X), atm(Z)), gnd(Y).",
@@ -40,7 +43,10 @@ const ROWS: [(&str, &str); 45] = [
     ),
     (":- regtype a/1.\na(X) :- a(X).", "10 =10;"),
     // lists: that of any term is there, each other one is added once
-    (":- regtype a/1.\na(X) :- list(X,term).\na(X) :- list(X).", "10 =9 =9;"),
+    (
+        ":- regtype a/1.\na(X) :- list(X,term).\na(X) :- list(X).",
+        "10 =9 =9;",
+    ),
     (
         ":- regtype a/1.\na(f(X,Y)) :- list(X,int), list(Y,int).\na(X) :- list(X,int).",
         "10 f/11/11 =11;11 [] ./1/11;",
@@ -89,7 +95,10 @@ const ROWS: [(&str, &str); 45] = [
     // declarations
     (":- regtype int/1.\nint(1).", "BadRegtype 0 1"),
     (":- regtype ground(X).\nground(1).", "BadRegtype 0 1"),
-    (":- regtype a/1.\na(x).\n:- regtype a/1.\na(y).", "BadRegtype 0 3"),
+    (
+        ":- regtype a/1.\na(x).\n:- regtype a/1.\na(y).",
+        "BadRegtype 0 3",
+    ),
     (":- regtype a/1.", "BadRegtype 0 1"),
     // clauses
     (":- regtype a/1.\na(f(X,X)).", "BadRegtype 0 2"),
@@ -105,7 +114,10 @@ const ROWS: [(&str, &str); 45] = [
     // names of types
     (":- regtype a/1.\na(X) :- b(X).", "UnknownProperty 0 2"),
     (":- regtype a/1.\na(X) :- var(X).", "UnknownProperty 0 2"),
-    (":- regtype a/1.\na(X) :- list(X,ground).", "UnknownProperty 0 2"),
+    (
+        ":- regtype a/1.\na(X) :- list(X,ground).",
+        "UnknownProperty 0 2",
+    ),
     // the least fault
     (
         ":- regtype a/1.\na(X) :- b(X). a(f(X,X)).",
@@ -129,12 +141,7 @@ const ROWS: [(&str, &str); 45] = [
     ),
 ];
 
-fn add_rule(
-    alloc: Global,
-    names: &Names,
-    rule: &Rule,
-    out: &mut String,
-) -> Result<(), AllocError> {
+fn add_rule(alloc: Global, names: &Names, rule: &Rule, out: &mut String) -> Result<(), AllocError> {
     match rule {
         Rule::Basic(_) => out.push_str("basic"),
         Rule::Int(number) => out.push_str(format!(in alloc; "{number}")?.as_str()),
@@ -179,12 +186,7 @@ pub(crate) fn grammar_told(
     Ok(out)
 }
 
-fn at_place(
-    alloc: Global,
-    kind: &str,
-    position: u64,
-    place: Place,
-) -> Result<String, AllocError> {
+fn at_place(alloc: Global, kind: &str, position: u64, place: Place) -> Result<String, AllocError> {
     format!(in alloc; "{kind} {position} {}", place.line)
 }
 

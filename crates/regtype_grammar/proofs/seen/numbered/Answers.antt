@@ -1,4 +1,4 @@
-use Rattle.std.proofs.Common.{◌≡◌, ◌+◌, ◌++◌, get_or, drop, sym, ◌∙◌}
+use Rattle.std.proofs.Common.{◌+◌, ◌++◌, get_or, drop, sym, ◌∙◌}
 use Rattle.std.proofs.lemmas.List.{at_drop_more}
 use Rattle.regtype_grammar.specs.declared.modules.SeenType.{SeenType}
 use Rattle.regtype_grammar.specs.TypeNames.{are_few, numbered}
