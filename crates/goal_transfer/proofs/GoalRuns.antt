@@ -1,37 +1,18 @@
 -- What comes of goals one after the other, or on two ways, as it is found; how large goals are.
-use Rattle.std.proofs.Common.{◌≡◌, ℕ, ◌+◌, Bool, true, false, List, ◌++◌, refl, ap, sym, ◌∙◌, true≢false, append_assoc, append-nil}
-use Rattle.std.specs.Prelude.{None, Some}
+use Rattle.std.proofs.Common.{◌≡◌, ℕ, ◌+◌, List, ◌++◌, length, take, drop, ap, sym, ◌∙◌, append_assoc}
+use Rattle.std.proofs.lemmas.List.{take_at}
+use Rattle.std.specs.Prelude.{Result, Ok, Err, OnOk}
 use Rattle.prog_data.specs.declared.goals.Goal.{Goal}
 use Rattle.prog_data.specs.declared.goals.Goal as goal
 use Rattle.prog_data.specs.declared.goals.Goal.TheOpen as layer
 use Rattle.prog_data.specs.declared.goals.Goal.TheFolds.{fold-Goal}
 use Rattle.prog_data.proofs.GoalFolds.{fold-Conj, fold-Disj, fold-IfElse, fold-Not}
-use Rattle.goal_transfer.specs.Transfer.{Values, Known, known_where, ReachedCall, Outcome, from_known, then_outcome, join_known, either_outcome}
+use Rattle.name_order.specs.Relations.{Order}
+use Rattle.goal_transfer.specs.Transfer.{Values, Known, ReachedCall, Outcome, then_outcome, join_known, either_outcome, Exits, outcome_step, run_goal}
 
--- a test that failed, or held
-
-pub is_none : (kept : Bool) (vs : Values) (k : Known) → kept ≡ false → known_where kept vs ≡ k → None ≡ k
-is_none false vs k e is = is
-is_none true vs k e is = absurd (true≢false e)
-
-pub is_kept : (kept : Bool) (vs : Values) (k : Known) → kept ≡ true → known_where kept vs ≡ k → Some vs ≡ k
-is_kept true vs k e is = is
-is_kept false vs k e is = absurd (true≢false (sym e))
-
--- one after the other
-
-pub stopped_known : (a : Outcome) (go : Values → Outcome) → None ≡ a.known → None ≡ (then_outcome a go).known
-stopped_known a go e = ap (λ k. (from_known k go).known) e
-
-pub stopped_calls : (a : Outcome) (go : Values → Outcome) (old new : List ReachedCall) → None ≡ a.known → new ≡ old ++ a.calls → new ≡ old ++ (then_outcome a go).calls
-stopped_calls a go old new e is = is ∙ ap (λ cs. old ++ cs) (sym (append-nil a.calls)) ∙ ap (λ k. old ++ (a.calls ++ (from_known k go).calls)) e
-
-pub gone_known : (a : Outcome) (go : Values → Outcome) (vs : Values) (k : Known) → Some vs ≡ a.known → k ≡ (go vs).known → k ≡ (then_outcome a go).known
-gone_known a go vs k e is = is ∙ ap (λ k. (from_known k go).known) e
-
-pub gone_calls : (a : Outcome) (go : Values → Outcome) (vs : Values) (old mid new : List ReachedCall) → Some vs ≡ a.known → mid ≡ old ++ a.calls → new ≡ mid ++ (go vs).calls → new ≡ old ++ (then_outcome a go).calls
-gone_calls a go vs old mid new e before is =
-    is ∙ ap (λ cs. cs ++ (go vs).calls) before ∙ append_assoc old a.calls (go vs).calls ∙ ap (λ k. old ++ (a.calls ++ (from_known k go).calls)) e
+-- what a list has, once a slice of all of it was written
+pub written_back : {A : Type 0} (new old : List A) (n : ℕ) → n ≡ length new → take n (new ++ drop (length new) old) ≡ new
+written_back new old n e = take_at new (drop (length new) old) n (sym e)
 
 -- two ways
 
@@ -40,6 +21,17 @@ either_known a b first second new e f is = is ∙ ap (λ k. join_known k second)
 
 pub either_calls : (a b : Outcome) (old mid new : List ReachedCall) → mid ≡ old ++ a.calls → new ≡ mid ++ b.calls → new ≡ old ++ (either_outcome a b).calls
 either_calls a b old mid new before is = is ∙ ap (λ cs. cs ++ b.calls) before ∙ append_assoc old a.calls b.calls
+
+-- a goal with another behind it, or a third
+pub if_runs : (o : Order) (exits : Exits) (g c a b x y z : Goal) (vs : Values) → g ≡ goal.IfElse c a b → x ≡ c → y ≡ a → z ≡ b →
+    either_outcome (then_outcome (run_goal o exits x vs) (run_goal o exits y)) (run_goal o exits z vs) ≡ run_goal o exits g vs
+if_runs o exits g c a b x y z vs is e f h =
+    (λ i. either_outcome (then_outcome (run_goal o exits (e i) vs) (run_goal o exits (f i))) (run_goal o exits (h i) vs)) ∙ sym (ap (λ go. go vs) (fold-IfElse _ (outcome_step o exits) c a b)) ∙ ap (λ g. run_goal o exits g vs) (sym is)
+
+-- what holds, holds of each answer
+pub on_ok : {A E P : Type 0} (r : Result A E) → P → OnOk r P
+on_ok (Ok x) p = p
+on_ok (Err e) p = tt
 
 -- how large a goal is
 
