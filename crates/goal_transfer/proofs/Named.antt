@@ -1,8 +1,8 @@
 -- Of a program in range: the names that conditions ask for, and the ranges of a clause.
-use Rattle.std.proofs.Common.{◌≡◌, ℕ, zero, suc, ◌<◌, Bool, true, ◌&&◌, List, [], ◌∷◌, length, refl, ap, sym, ◌∙◌, subst}
+use Rattle.std.proofs.Common.{◌≡◌, ℕ, zero, suc, ◌<◌, Bool, true, ◌&&◌, List, [], ◌∷◌, length, get_or, refl, ap, sym, ◌∙◌, subst, arith}
 use Rattle.std.proofs.lemmas.Bool.{and_from}
-use Rattle.std.proofs.lemmas.Option.{none-some, same_Some}
-use Rattle.std.specs.Prelude.{nat_lt, nat_le, ◌==◌, slice_get, Option, None, Some, option_map}
+use Rattle.std.proofs.lemmas.Option.{none-some, same_Some, slice_get_read}
+use Rattle.std.specs.Prelude.{nat_lt, nat_le, ◌==◌, slice_get, slice_index_or, Option, None, Some, option_map}
 use Rattle.std.specs.List.{list_all}
 use Rattle.term_core.specs.Terms.{above}
 use Rattle.prog_data.specs.declared.conditions.Prop.{Prop}
@@ -11,9 +11,10 @@ use Rattle.prog_data.specs.declared.conditions.Cond.{Cond}
 use Rattle.prog_data.specs.declared.conditions.CondKind.{CondKind}
 use Rattle.prog_data.specs.declared.conditions.CondKind.TheVariants.{Calls, Success}
 use Rattle.prog_data.specs.declared.programs.Clause.{Clause}
+use Rattle.prog_data.specs.declared.programs.Pred.{Pred}
 use Rattle.prog_data.specs.declared.programs.Program.{Program}
 use Rattle.prog_data.specs.Conditions.{kind_of}
-use Rattle.prog_data.specs.Goals.{pred_of}
+use Rattle.prog_data.specs.Goals.{no_pred, pred_of}
 use Rattle.prog_data.specs.Ranges.{is_term_of, is_body_of, is_place_of, is_clause_of, is_prop_of, is_kind_of}
 use Rattle.prog_data.specs.Programs.{IsProgram}
 use Rattle.prog_data.specs.RangeLaws.{RangesAreKept}
@@ -68,3 +69,15 @@ module _ (program : Program) (range : IsProgram program) where
   clause_within arity c e =
       let t = both ((length c.head == arity) && list_all (is_term_of program c.vars) c.head) (is_body_of program c.vars c.body && is_place_of program c.place) e in
       (terms_within program c.vars c.head (both (length c.head == arity) _ t.0).1, (both (is_body_of program c.vars c.body) _ t.1).0)
+
+  read_pred : (preds : List Pred) (p : ℕ) (x : Pred) → p < length preds → x ≡ get_or preds p x → slice_index_or preds p no_pred ≡ x
+  read_pred [] p x lt e = absurd (omega (arith, lt))
+  read_pred (y ∷ preds) zero x lt e = sym e
+  read_pred (y ∷ preds) (suc p) x lt e = read_pred preds p x (omega (arith, lt)) e
+
+  -- a clause that is read in its place
+  pub clause_read : (preds : List Pred) (p k : ℕ) (pred : Pred) (cs : List Clause) (c : Clause) → preds ≡ program.preds → p < length program.preds → pred ≡ get_or preds p pred → cs ≡ pred.clauses → k < length (pred_of program p).clauses → c ≡ get_or cs k c →
+      slice_get (pred_of program p).clauses k ≡ Some c
+  clause_read preds p k pred cs c e lt is f less read =
+      let at : pred_of program p ≡ pred = read_pred program.preds p pred lt (subst (λ ps. pred ≡ get_or ps p pred) e is) in
+      slice_get_read (pred_of program p).clauses (length (pred_of program p).clauses) k c refl less (subst (λ xs. c ≡ get_or xs k c) (f ∙ ap (λ q. q.clauses) (sym at)) read)

@@ -36,6 +36,12 @@ facts_past [] k le = refl
 facts_past (x ∷ rows) zero le = absurd (omega (arith, le))
 facts_past (x ∷ rows) (suc k) le = facts_past rows k (omega (arith, le))
 
+-- in the place of a row that is not there
+pub facts_absent : (rows : List Row) (k : ℕ) → None ≡ slice_get rows k → no_facts ≡ facts_of (map row_seen rows) k
+facts_absent [] k e = refl
+facts_absent (x ∷ rows) zero e = cc
+facts_absent (x ∷ rows) (suc k) e = facts_absent rows k e
+
 seen_exit : (e : Option (List Value)) → exit_seen (Some e) ≡ list_seen e
 seen_exit None = refl
 seen_exit (Some vs) = refl

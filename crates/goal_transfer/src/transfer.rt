@@ -5,7 +5,7 @@ ghost use Rattle.prog_data.specs.declared.programs.Clause.{Clause};
 ghost use Rattle.prog_data.specs.Goals.{pred_of};
 ghost use Rattle.prog_data.specs.Ranges.{is_body_of};
 ghost use Rattle.prog_data.specs.Programs.{IsProgram};
-ghost use Rattle.name_order.specs.Relations.{order};
+ghost use Rattle.name_order.specs.Relations.{Order, order};
 ghost use Rattle.goal_transfer.specs.Transfer.{known_where, then_known, unify_values, from_known, run_goal};
 ghost use Rattle.goal_transfer.specs.Tables.{table_seen, exits_of, clause_effect};
 ghost use Rattle.goal_transfer.specs.States.{values_seen, state_seen, call_seen, effect_seen};
