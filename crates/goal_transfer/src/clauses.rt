@@ -58,7 +58,15 @@ fn run_from(
     if !push_each(grammar, rel, head, entry, &mut values) {
         return Ok(Effect { exit: None, calls });
     }
-    if !run(alloc, program, rel, exits, &clause.body, &mut values, &mut calls)? {
+    if !run(
+        alloc,
+        program,
+        rel,
+        exits,
+        &clause.body,
+        &mut values,
+        &mut calls,
+    )? {
         return Ok(Effect { exit: None, calls });
     }
     let exit = values_of(alloc, grammar, rel, &values, head)?;
