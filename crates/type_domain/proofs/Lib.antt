@@ -6,7 +6,7 @@ mod LeafLists
 mod LeqLaws
 mod Lists
 mod MoreNames
-mod NameLoops
+pub mod NameLoops
 mod Orders
 mod Parts
 mod Stored
