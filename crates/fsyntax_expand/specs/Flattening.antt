@@ -16,11 +16,11 @@ use Rattle.dcg_expand.specs.Expansion.{compound}
 abbrev pub Flattened : Type 0 → Type 0
 Flattened A = List Term → Making (A × List Term)
 
--- without a goal
+-- it alone: it adds no goal to those before it
 abbrev pub without_goals : {A : Type 0} → A → Flattened A
 without_goals x goals = made (x, goals)
 
--- a term with one more argument, none where it would have more than 255, or is no atom and no compound
+-- a term with one more argument, none where it would have more than a compound may have, or is no atom and no compound
 abbrev pub with_one_more : Term-F Term → Term → Making Term
 with_one_more (Atom a) last = compound a (last ∷ [])
 with_one_more (Node f args) last = compound f (args ++ last ∷ [])
