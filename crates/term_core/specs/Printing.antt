@@ -118,7 +118,7 @@ module _ (names : List (List ℕ)) (ops : Operators) (quoted : Bool) where
   abbrev pub infix_text : ℕ → Op → Shown → Shown → List ℕ
   infix_text f o left right = at_operand (left_limit o) left ++ infix_name f ++ at_operand (right_limit o) right
 
-  -- a compound of one argument, by what its name is as a prefix operator; one that is a keyword or a status of assertions is written as a call
+  -- a compound of one argument, by what its name is as a prefix operator; one of the priority of keywords, whatever its name, is written as a call
   abbrev pub one_shown : ℕ → Option Op → Shown → Shown
   one_shown f None part = call_shown f (part ∷ [])
   one_shown f (Some o) part = if o.priority == keyword_priority then call_shown f (part ∷ []) else plain_shown o.priority (prefix_text f o part)
