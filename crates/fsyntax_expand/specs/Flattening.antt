@@ -12,11 +12,11 @@ use Rattle.dcg_expand.specs.declared.faults.ExpandFault.TheVariants.{BadExpansio
 use Rattle.dcg_expand.specs.Making.{Making, made, no_line, new_variable, ◌>>=◌}
 use Rattle.dcg_expand.specs.Expansion.{compound}
 
--- behind some goals, something with more goals
+-- from the goals so far: something, and these goals with those that it adds behind them
 abbrev pub Flattened : Type 0 → Type 0
 Flattened A = List Term → Making (A × List Term)
 
--- it alone: it adds no goal to those before it
+-- this, with no goal added to those so far
 abbrev pub without_goals : {A : Type 0} → A → Flattened A
 without_goals x goals = made (x, goals)
 
