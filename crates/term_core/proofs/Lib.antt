@@ -4,7 +4,7 @@ mod Copies
 pub mod Counting
 mod FixedNames
 pub mod KindLaws
-mod NameLaws
+pub mod NameLaws
 pub mod Occurrences
 pub mod OperandLaws
 mod OperatorChanges
