@@ -10,18 +10,6 @@ pub fn ranges_law()
     ensures { RangesStay }
 {}
 
-/// Equations that differ in the names of their variables alone end in the same kind of outcome.
-pub fn unified_variants_law()
-    ensures { VariantsEndAlike }
-{}
-
-/// What two most general solutions of such equations give differs in the names of variables alone; such terms are the same
-/// once their variables are numbered.
-pub fn variants_law()
-    ensures solved { VariantsSolvedAlike }
-    ensures numbered { VariantsNumberedAlike }
-{}
-
 /// Equations may be solved one list after the other, each with the solutions of those before it put in.
 pub fn sequence_law()
     ensures { InSequence }
@@ -33,4 +21,16 @@ pub fn sequence_law()
 pub fn alone_law()
     ensures stays { StaysAlone }
     ensures binds { BindsFirst }
+{}
+
+/// Equations that differ in the names of their variables alone end in the same kind of outcome.
+pub fn unified_variants_law()
+    ensures { VariantsEndAlike }
+{}
+
+/// What two most general solutions of such equations give differs in the names of variables alone; such terms are the same
+/// once their variables are numbered.
+pub fn variants_law()
+    ensures solved { VariantsSolvedAlike }
+    ensures numbered { VariantsNumberedAlike }
 {}
