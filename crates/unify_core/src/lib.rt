@@ -13,6 +13,6 @@ mod reduce;
 mod tests;
 mod unifying;
 
-pub use laws::{alone_law, new_law, sequence_law};
+pub use laws::new_law;
 pub use matching::match_head;
 pub use unifying::{Unified, unify};
