@@ -105,6 +105,7 @@ pub use fixed::WRITE;
 pub use fixed::WRITEQ;
 pub use laws::ranges_law;
 pub use laws::unified_variants_law;
+pub use laws::variant_tests_law;
 pub use laws::variants_law;
 pub use lists::both;
 pub use lists::one;
