@@ -16,7 +16,7 @@ use Rattle.prog_data.specs.declared.programs.Program.{Program}
 use Rattle.prog_data.specs.declared.events.Ending.{Ending}
 use Rattle.prog_data.specs.declared.events.Ending.TheVariants as ending
 use Rattle.prog_data.specs.declared.events.Event.TheVariants.{Answer, Broken}
-use Rattle.prog_data.specs.Conditions.{kind_of, pre_holds, calls_hold, post_holds, exit_breaks}
+use Rattle.prog_data.specs.Conditions.{kind_of, pre_holds, calls_hold, post_holds, exit_breaks, failure_breaks}
 use Rattle.prog_data.specs.Goals.{pred_of}
 use Rattle.machine_model.specs.State.{Item, Exits, Frame, Call, Choice, Try, Current, Doing, Solving, Failed, State, Phase, Going, Over, Trace, exit_mark}
 use Rattle.machine_model.specs.Tests.{Tests}
@@ -331,7 +331,7 @@ module _ (what : Tests) (program : Program) (closed : AreClosed program) (bound 
     failure_follows cs cs' (try {k = k} {cs = older} {cs' = older'} (calls {p = p} {args = args} {args' = args'} {noted = noted} {mark = m} {mark' = m'} {h = h} {h' = h'} {is = is} {is' = is'} {query = query} {query' = query'} names js terms place_at marks items q) ch) =
         moves (try_follows cs cs' older older' (clause_at program p k) (record { pred = p; args = args; noted = noted; mark = m; height = h; rest = record { items = is; query = query } })
         (record { pred = p; args = args'; noted = noted; mark = m'; height = h'; rest = record { items = is'; query = query' } }) (closed p k) ch (calls names js terms place_at marks items q))
-    failure_follows cs cs' (mark ch) = moves (tested program what.stops 0 _ _ _ _ (goes ch failed))
+    failure_follows cs cs' (mark {conds = conds} {e = e} ch) = moves (tested program what.stops 0 (λ k. finding (not (failure_breaks e (kind_of program k)))) conds _ _ (goes ch failed))
     failure_follows cs cs' (left_out {k = k} {call = call} {cs = older} d ch) = left_out_stays k call older cs' _ d ch
 
     solving_follows : {ks : List Kind} (cs cs' : List Choice) (place : Place) (stage stage' : Stage) (is is' : List Item) (query query' : Term) (names : Renaming n n') (es es' : List Equation) (k : ℕ) → ChoicesAgree program n n' ks cs cs' → AreVariants names.there names.back es es' →
