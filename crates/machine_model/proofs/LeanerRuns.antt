@@ -99,9 +99,9 @@ pub tells_then : (program : Program) (s s' s'' : State) → TellTheSame program 
 tells_then program s s' s'' a b = record {
   forth = λ what bound es n e run. a.forth what bound es n e (b.forth what bound es n e run);
   back = λ what bound es n e run.
-  let first = a.back what bound es n e run in
-  let second = b.back what bound es n e first.0 in
-  let less = first.1 in
-  let more = second.1 in
-  (second.0, omega (arith, less, more));
+      let first = a.back what bound es n e run in
+      let second = b.back what bound es n e first.0 in
+      let less = first.1 in
+      let more = second.1 in
+      (second.0, omega (arith, less, more));
 }

@@ -312,8 +312,12 @@ module _ (what : Tests) (program : Program) (closed : AreClosed program) (bound 
         let vars = clause.vars in
         let all = names_entered names vars in
         let es = pairs_variants (terms_entered names vars terms) (clause_terms names vars c.head) in
-        (record { events = refl; tests = refl; phases = on (states (choices_more (omega arith) (omega arith) ch) (solving all _ _ 0 es refl refl (both_open all.there all.back es)
-        (does js (clause_goal names vars c.body) place_at (exit_behind (what.exits clause.body) _ _ (terms_entered names vars terms) marks (items_entered names vars items))) (terms_entered names vars q))) })
+        (record {
+          events = refl;
+          tests = refl;
+          phases = on (states (choices_more (omega arith) (omega arith) ch) (solving all _ _ 0 es refl refl (both_open all.there all.back es)
+              (does js (clause_goal names vars c.body) place_at (exit_behind (what.exits clause.body) _ _ (terms_entered names vars terms) marks (items_entered names vars items))) (terms_entered names vars q)));
+        })
 
     -- a clause that the other lacks
     left_out_stays : {ks : List Kind} (k : ℕ) (call : Call) (cs cs' : List Choice) (t' : Trace) → CannotMatch program k call → ChoicesAgree program n n' ks cs cs' →

@@ -25,9 +25,9 @@ after_alike there back m m' (both_become es es' e b) rest rest' are bs bs' = bot
 })
 after_alike there back m m' (both_bind v v' t t' e b f g absent absent') rest rest' are bs bs' =
     both_open (λ x. instance (only v' t') (there x)) (λ x. instance (only v t) (back x)) (record {
-  is_there = bound_there there v v' t t' e f absent' rest ∙ ap (replace_all v' t') are.is_there;
-  is_back = bound_there back v' v t' t b g absent rest' ∙ ap (replace_all v t) are.is_back;
-})
+      is_there = bound_there there v v' t t' e f absent' rest ∙ ap (replace_all v' t') are.is_there;
+      is_back = bound_there back v' v t' t b g absent rest' ∙ ap (replace_all v t) are.is_back;
+    })
 after_alike there back m m' both_clash rest rest' are bs bs' = both_ended tt
 after_alike there back m m' both_cycle rest rest' are bs bs' = both_ended tt
 
