@@ -27,3 +27,5 @@ pub mod Turns
 pub mod UnifyEnds
 pub mod VarLemmas
 pub mod VariantLaws
+pub mod VariantStages
+pub mod VariantTests

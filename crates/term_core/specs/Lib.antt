@@ -13,4 +13,5 @@ pub mod Solutions
 pub mod Standard
 pub mod Terms
 pub mod Unify
+pub mod VariantTests
 pub mod Variants

@@ -2,6 +2,7 @@
 ghost use Rattle.term_core.specs.Ranges.{RangesStay};
 ghost use Rattle.term_core.specs.Sequences.{InSequence, StaysAlone, BindsFirst};
 ghost use Rattle.term_core.specs.Variants.{VariantsEndAlike, VariantsSolvedAlike, VariantsNumberedAlike};
+ghost use Rattle.term_core.specs.VariantTests.{VariantsShapedAlike, VariantsTestedAlike, VariantsSameAlike};
 
 use crate::unification_law;
 
@@ -33,4 +34,12 @@ pub fn unified_variants_law()
 pub fn variants_law()
     ensures solved { VariantsSolvedAlike }
     ensures numbered { VariantsNumberedAlike }
+{}
+
+/// Terms that differ in the names of variables alone are one term once each variable has the same name. A test of a term by
+/// its parts, without a look at the numbers of variables, says the same of both; and so does whether two terms are the same.
+pub fn variant_tests_law()
+    ensures shaped { VariantsShapedAlike }
+    ensures tested { VariantsTestedAlike }
+    ensures same { VariantsSameAlike }
 {}

@@ -108,6 +108,7 @@ pub use laws::alone_law;
 pub use laws::ranges_law;
 pub use laws::sequence_law;
 pub use laws::unified_variants_law;
+pub use laws::variant_tests_law;
 pub use laws::variants_law;
 pub use lists::both;
 pub use lists::one;
