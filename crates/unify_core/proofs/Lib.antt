@@ -11,5 +11,4 @@ mod PairSizes
 mod PairSteps
 mod ReduceLaws
 mod SequenceLaws
-mod TestPremises
 mod UnifyLaws
