@@ -173,15 +173,19 @@ fn fault_told(alloc: Global, fault: ReadFault) -> Result<String, AllocError> {
     }
 }
 
+fn term_told(alloc: Global, names: &Names, term: &Term) -> Result<String, AllocError> {
+    let mut out = String::new(alloc);
+    add_term(alloc, names, term, &mut out)?;
+    Ok(out)
+}
+
 fn goal_told(alloc: Global, text: &str) -> Result<String, NoMemory> {
     let mut names = Names::new(alloc)?;
     let ops = OpTable::standard(alloc)?;
-    let mut out = String::new(alloc);
     match read_goal(alloc, &mut names, &ops, text) {
-        Ok(goal) => add_term(alloc, &names, &goal.term, &mut out)?,
-        Err(fault) => return Ok(fault_told(alloc, fault)?),
+        Ok(goal) => Ok(term_told(alloc, &names, &goal.term)?),
+        Err(fault) => Ok(fault_told(alloc, fault)?),
     }
-    Ok(out)
 }
 
 // The first text of which something else is told as a goal.

@@ -1,5 +1,5 @@
 // Terms by their texts.
-use ciao_reader::{ReadFault, read_goal};
+use ciao_reader::{ReadFault, Sentence, read_goal};
 use std::alloc::Global;
 use term_core::{Names, NoMemory, OpTable, Term};
 
@@ -11,7 +11,7 @@ pub(crate) fn term_of(
 ) -> Result<Option<Term>, NoMemory> {
     let ops = OpTable::standard(alloc)?;
     match read_goal(alloc, names, &ops, text) {
-        Ok(goal) => Ok(Some(goal.term)),
+        Ok(Sentence { term, .. }) => Ok(Some(term)),
         Err(ReadFault::NoMemory) => Err(NoMemory),
         Err(_) => Ok(None),
     }
