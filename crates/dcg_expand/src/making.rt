@@ -11,6 +11,9 @@ use std::alloc::Global;
 use term_core::{NIL, NoMemory, Term, copy, discard, one};
 
 /// The next new variable.
+///
+/// # Errors
+/// Where no variable number is left.
 pub fn new_variable(next: &mut u64) -> Result<u64, ExpandFault>
     ensures { Makes result next.new (new_variable next.old) }
 {
@@ -34,6 +37,9 @@ fn two_places(alloc: Global) -> Result<Items<Term>, NoMemory>
 }
 
 /// A compound of two arguments. These may be of any depth: where memory is refused, they are let go without recursion.
+///
+/// # Errors
+/// Where memory is refused.
 pub fn pair(alloc: Global, name: u64, left: Term, right: Term) -> Result<Term, NoMemory>
     ensures { IfOk result (λ t. t ≡ pair name left right) }
 {
@@ -52,6 +58,9 @@ pub fn pair(alloc: Global, name: u64, left: Term, right: Term) -> Result<Term, N
 }
 
 /// Equal terms.
+///
+/// # Errors
+/// Where memory is refused.
 pub fn copied_all(alloc: Global, terms: &[Term]) -> Result<Items<Term>, NoMemory>
     ensures { IfOk result (λ ts. ts ≡ terms.now) }
 {

@@ -173,13 +173,19 @@ fn all_told(alloc: Global, names: &Names, tokens: &[Token]) -> Result<String, Al
     Ok(out)
 }
 
-fn fault_told(alloc: Global, fault: TextFault) -> Result<String, AllocError> {
+// The word of a fault, and its line.
+fn fault_parts(fault: TextFault) -> (&'static str, u64) {
     match fault {
-        TextFault::NotUtf8(line) => format!(in alloc; "utf8 {line}"),
-        TextFault::BadToken(line) => format!(in alloc; "bad {line}"),
-        TextFault::IntRange(line) => format!(in alloc; "range {line}"),
-        TextFault::NoMemory => format!(in alloc; "memory"),
+        TextFault::NotUtf8(line) => ("utf8", line),
+        TextFault::BadToken(line) => ("bad", line),
+        TextFault::IntRange(line) => ("range", line),
+        TextFault::NoMemory => ("memory", 0),
     }
+}
+
+fn fault_told(alloc: Global, fault: TextFault) -> Result<String, AllocError> {
+    let (word, line) = fault_parts(fault);
+    format!(in alloc; "{word} {line}")
 }
 
 fn told(alloc: Global, bytes: &[u8]) -> Result<String, NoMemory> {

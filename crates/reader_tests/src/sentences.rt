@@ -160,17 +160,23 @@ fn add_term(alloc: Global, names: &Names, term: &Term, out: &mut String) -> Resu
     }
 }
 
-fn fault_told(alloc: Global, fault: ReadFault) -> Result<String, AllocError> {
+// The word of a fault, and its line.
+fn fault_parts(fault: ReadFault) -> (&'static str, u64) {
     match fault {
-        ReadFault::NotUtf8(line) => format!(in alloc; "utf8 {line}"),
-        ReadFault::BadToken(line) => format!(in alloc; "bad {line}"),
-        ReadFault::IntRange(line) => format!(in alloc; "range {line}"),
-        ReadFault::Syntax(line) => format!(in alloc; "syntax {line}"),
-        ReadFault::TooDeep(line) => format!(in alloc; "deep {line}"),
-        ReadFault::OpRefused(line) => format!(in alloc; "op {line}"),
-        ReadFault::NoEnd(line) => format!(in alloc; "no end {line}"),
-        ReadFault::NoMemory => format!(in alloc; "memory"),
+        ReadFault::NotUtf8(line) => ("utf8", line),
+        ReadFault::BadToken(line) => ("bad", line),
+        ReadFault::IntRange(line) => ("range", line),
+        ReadFault::Syntax(line) => ("syntax", line),
+        ReadFault::TooDeep(line) => ("deep", line),
+        ReadFault::OpRefused(line) => ("op", line),
+        ReadFault::NoEnd(line) => ("no end", line),
+        ReadFault::NoMemory => ("memory", 0),
     }
+}
+
+fn fault_told(alloc: Global, fault: ReadFault) -> Result<String, AllocError> {
+    let (word, line) = fault_parts(fault);
+    format!(in alloc; "{word} {line}")
 }
 
 fn term_told(alloc: Global, names: &Names, term: &Term) -> Result<String, AllocError> {

@@ -1,9 +1,12 @@
+pub mod AloneLaws
+mod ConjunctLoop
 mod Copies
 pub mod Counting
 mod FixedNames
 pub mod KindLaws
-pub mod NameLaws
+mod NameLaws
 pub mod Occurrences
+pub mod OperandLaws
 mod OperatorChanges
 mod OperatorLists
 pub mod OperatorTables
@@ -11,6 +14,7 @@ mod OperatorTies
 mod OperatorTorn
 mod QuotingLemmas
 mod RangeLaws
+mod SequenceLaws
 mod ShortLists
 mod SizeLaws
 pub mod Sizes

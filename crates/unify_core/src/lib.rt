@@ -9,6 +9,6 @@ mod pairs;
 mod reduce;
 mod unifying;
 
-pub use laws::{alone_law, new_law, sequence_law};
+pub use laws::new_law;
 pub use matching::match_head;
 pub use unifying::{Unified, unify};

@@ -7,11 +7,11 @@ use Rattle.term_core.specs.declared.equations.Outcome.{Outcome}
 use Rattle.term_core.specs.declared.equations.Outcome.TheVariants.{Clash, Cyclic}
 use Rattle.term_core.specs.Terms.{instance, occurs, only}
 use Rattle.term_core.specs.Unify.{Unified, occurs_in}
-use Rattle.term_core.specs.Variants.{all_instances, IsMostGeneral, SameKind}
+use Rattle.term_core.specs.Variants.{all_instances, IsMostGeneral, EndsAs}
 
 -- equations are solved by solving the first ones, and then the others with the solution put in; where the first ones clash or are cyclic, all do and are
 pub record InSequence : Type 0 where
-  pub ends : (es rest : List Equation) (value : ℕ → Term) (o : Outcome) → IsMostGeneral es value → Unified (all_instances value rest) o → (o' : Outcome) × Unified (es ++ rest) o' × SameKind o' o
+  pub ends : (es rest : List Equation) (value : ℕ → Term) (o : Outcome) → IsMostGeneral es value → Unified (all_instances value rest) o → EndsAs (es ++ rest) o
   pub solved : (es rest : List Equation) (value other : ℕ → Term) → IsMostGeneral es value → IsMostGeneral (all_instances value rest) other → IsMostGeneral (es ++ rest) (λ v. instance other (value v))
   pub clashes : (es rest : List Equation) → Unified es Clash → Unified (es ++ rest) Clash
   pub cycles : (es rest : List Equation) → Unified es Cyclic → Unified (es ++ rest) Cyclic

@@ -8,14 +8,12 @@ use Rattle.term_core.specs.declared.terms.Term.TheVariants.{outs-Atom, outs-Node
 use Rattle.term_core.specs.declared.equations.Equation.{Equation}
 use Rattle.term_core.specs.Terms.{instance, instance_step, only, occurs, occurs_step}
 use Rattle.term_core.specs.Unify.{occurs_in}
-use Rattle.term_core.specs.Solutions.{Solves}
+use Rattle.term_core.specs.Solutions.{Solves, with_value}
 use Rattle.term_core.specs.Variants.{IsMostGeneral}
 use Rattle.term_core.proofs.TermFolds.{fold-Int, fold-Atom, ind_terms}
-use Rattle.term_core.proofs.TermLaws.{instance-Var, instance-Node, instance_agrees, replace-absent}
+use Rattle.term_core.proofs.TermLaws.{instance-Var, instance-Node, instance_agrees, replace-absent, with_same, with_other}
 use Rattle.term_core.proofs.Occurrences.{occurs-Node, occurs-Var}
 use Rattle.term_core.proofs.VariantLaws.{View, is_var, is_int, is_atom, is_node, view, node_inside, only_same, replaced_same}
-use Rattle.term_heap.specs.Changes.{with_value}
-use Rattle.term_heap.proofs.ValueLaws.{with_same, with_other}
 
 head_same : (x y : Term) (xs ys : List Term) → x ∷ xs ≡ y ∷ ys → x ≡ y
 head_same x y xs ys e = cc

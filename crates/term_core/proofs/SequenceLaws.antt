@@ -9,20 +9,12 @@ use Rattle.term_core.specs.declared.equations.Outcome.TheVariants.{Solved, Clash
 use Rattle.term_core.specs.Terms.{instance, only}
 use Rattle.term_core.specs.Unify.{replace_all, Move, Becomes, Binds, Clashes, Cycles, move, Stage, Open, Ended, after, solve, solves, Unified, values}
 use Rattle.term_core.specs.Solutions.{Solves, IsRight, HasOneOutcome}
-use Rattle.term_core.specs.Variants.{all_instances, AreVariants, IsMostGeneral, SameKind}
+use Rattle.term_core.specs.Variants.{all_instances, AreVariants, IsMostGeneral, EndsAs}
 use Rattle.term_core.proofs.TermLaws.{instance-instance}
-use Rattle.term_core.proofs.VariantLaws.{all_instances-append, all_instances_twice, solves_instance}
-use Rattle.unify_core.specs.Leads.{EndsAs}
-use Rattle.unify_core.proofs.LeadLaws.{itself, same_itself, variants_end}
+use Rattle.term_core.proofs.KindLaws.{ended_stays, ended_inside, open_ended, same_itself, variants_end}
+use Rattle.term_core.proofs.VariantLaws.{all_instances-append, all_instances-itself, all_instances_twice, solves_instance}
 
 -- stages
-
-ended_stays : (k : ℕ) (o : Outcome) → solves k (Ended o) ≡ Ended o
-ended_stays zero o = refl
-ended_stays (suc k) o = ended_stays k o
-
-same_end : (o o' : Outcome) → Ended o ≡ Ended o' → o ≡ o'
-same_end o o' e = cc
 
 same_bindings : (bs bs' : List Binding) → Solved bs ≡ Solved bs' → bs ≡ bs'
 same_bindings bs bs' e = cc
@@ -32,9 +24,6 @@ solved_no_clash bs e = cc
 
 solved_no_cycle : (bs : List Binding) → Cyclic ≡ Solved bs → ⊥
 solved_no_cycle bs e = cc
-
-open_not_ended : (es : List Equation) (bs : List Binding) (o : Outcome) → Open es bs ≡ Ended o → ⊥
-open_not_ended es bs o e = cc
 
 steps_then : (j k : ℕ) (s : Stage) → (n : ℕ) × (solves n s ≡ solves k (solves j s))
 steps_then zero k s = (k, refl)
@@ -48,14 +37,14 @@ pub record ComesTo (es rest : List Equation) (first all : List Binding) : Type 0
   pub comes : solves steps (Open (es ++ rest) first) ≡ Open (all_instances (values new) rest) all
 
 comes_to : (k : ℕ) (es rest : List Equation) (first all : List Binding) → solves k (Open es first) ≡ Ended (Solved all) → ComesTo es rest first all
-comes_to zero es rest first all e = absurd (open_not_ended es first (Solved all) e)
+comes_to zero es rest first all e = absurd (open_ended es first (Solved all) e)
 comes_to (suc k) [] rest first all e =
-    let same : first ≡ all = same_bindings first all (same_end (Solved first) (Solved all) (sym (ended_stays k (Solved first)) ∙ e)) in
+    let same : first ≡ all = same_bindings first all (ended_inside (Solved first) (Solved all) (sym (ended_stays k (Solved first)) ∙ e)) in
     record {
       new = [];
       are_all = sym same ∙ sym (append-nil first);
       steps = 0;
-      comes = (λ i. Open (sym (itself rest) i) (same i));
+      comes = (λ i. Open (sym (all_instances-itself rest) i) (same i));
     }
 comes_to (suc k) (x ∷ es) rest first all e = by_move (λ es' rest' first' e'. comes_to k es' rest' first' all e') (move x) refl where
   Before : Type 0
@@ -83,13 +72,13 @@ comes_to (suc k) (x ∷ es) rest first all e = by_move (λ es' rest' first' e'. 
             ∙ r.comes
             ∙ ap (λ es'. Open es' all) (all_instances_twice (values r.new) (only v t) (values (b ∷ r.new)) (λ w. refl) rest);
       }
-  by_move before Clashes is = absurd (solved_no_clash all (same_end Clash (Solved all) (sym (ended_stays k Clash) ∙ ap (λ m. solves k (after m es first)) (sym is) ∙ e)))
-  by_move before Cycles is = absurd (solved_no_cycle all (same_end Cyclic (Solved all) (sym (ended_stays k Cyclic) ∙ ap (λ m. solves k (after m es first)) (sym is) ∙ e)))
+  by_move before Clashes is = absurd (solved_no_clash all (ended_inside Clash (Solved all) (sym (ended_stays k Clash) ∙ ap (λ m. solves k (after m es first)) (sym is) ∙ e)))
+  by_move before Cycles is = absurd (solved_no_cycle all (ended_inside Cyclic (Solved all) (sym (ended_stays k Cyclic) ∙ ap (λ m. solves k (after m es first)) (sym is) ∙ e)))
 
 -- where the first ones are not solved, all end so
 stops : (k : ℕ) (es rest : List Equation) (first : List Binding) (o : Outcome) → ((bs : List Binding) → o ≡ Solved bs → ⊥) → solves k (Open es first) ≡ Ended o → solves k (Open (es ++ rest) first) ≡ Ended o
-stops zero es rest first o never e = absurd (open_not_ended es first o e)
-stops (suc k) [] rest first o never e = absurd (never first (sym (same_end (Solved first) o (sym (ended_stays k (Solved first)) ∙ e))))
+stops zero es rest first o never e = absurd (open_ended es first o e)
+stops (suc k) [] rest first o never e = absurd (never first (sym (ended_inside (Solved first) o (sym (ended_stays k (Solved first)) ∙ e))))
 stops (suc k) (x ∷ es) rest first o never e = by_move (λ es' rest' first' e'. stops k es' rest' first' o never e') (move x) refl where
   Before : Type 0
   Before = (es' rest' : List Equation) (first' : List Binding) → solves k (Open es' first') ≡ Ended o → solves k (Open (es' ++ rest') first') ≡ Ended o
@@ -164,5 +153,5 @@ ends_all es rest value o one m ends = by_outcome one.outcome one.ends one.is_rig
   by_outcome Clash u right = absurd (right value m.solves)
   by_outcome Cyclic u right = absurd (right value m.solves)
 
-pub ends_after : (es rest : List Equation) (value : ℕ → Term) (o : Outcome) → HasOneOutcome es → IsMostGeneral es value → Unified (all_instances value rest) o → (o' : Outcome) × Unified (es ++ rest) o' × SameKind o' o
+pub ends_after : (es rest : List Equation) (value : ℕ → Term) (o : Outcome) → HasOneOutcome es → IsMostGeneral es value → Unified (all_instances value rest) o → EndsAs (es ++ rest) o
 ends_after es rest value o one m u = ends_all es rest value o one m (o, u, same_itself o)

@@ -1,5 +1,5 @@
-use Rattle.term_operands.proofs.ConjunctLoop.{item_turn, item_smaller, sides_turn, sides_smaller}
-use Rattle.term_operands.proofs.operands.conjuncts.Goals as goal
+use Rattle.term_core.proofs.ConjunctLoop.{item_turn, item_smaller, sides_turn, sides_smaller}
+use Rattle.term_core.proofs.operands.conjuncts.Goals as goal
 
 pub loop-next-smaller-in-Continue-branch-2 : goal.loop-next-smaller-in-Continue-branch-2
 loop-next-smaller-in-Continue-branch-2 c = item_smaller (λ t. t.now) c.loop-next.pending c.pop.new.self c.in-Some.next c.in-Some.ensures

@@ -1,7 +1,7 @@
 use Rattle.std.proofs.Common.{◌≡◌, ◌++◌, map}
-use Rattle.term_operands.specs.Operands.{conjuncts}
-use Rattle.term_operands.proofs.ConjunctLoop.{stack_conjuncts, stack_size}
-use Rattle.term_operands.proofs.operands.conjuncts.Given as goal
+use Rattle.term_core.specs.Operands.{conjuncts}
+use Rattle.term_core.proofs.ConjunctLoop.{stack_conjuncts, stack_size}
+use Rattle.term_core.proofs.operands.conjuncts.Given as goal
 
 abbrev pub invariant-loop-next : goal.invariant-loop-next
 invariant-loop-next l = map (λ t. t.now) l.terms ++ stack_conjuncts (map (λ t. t.now) l.pending) ≡ conjuncts l.fn.term

@@ -12,7 +12,7 @@ use Rattle.term_core.specs.declared.terms.Term.TheFolds.{fold-Term}
 use Rattle.term_core.specs.declared.fixed.TheConstants.{COMMA}
 use Rattle.term_core.specs.Shapes.{single_of, pair_of, split_by, split, with_mark}
 use Rattle.term_core.proofs.TermFolds.{fold-Var, fold-Int, fold-Atom, fold-Node, ind_terms}
-use Rattle.term_operands.specs.Operands.{Joined, alone, compound_joined, joined_step, on_both_sides, on_the_left, conjuncts, chain, before_all, all_said, joined_said}
+use Rattle.term_core.specs.Operands.{Joined, alone, compound_joined, joined_step, on_both_sides, on_the_left, conjuncts, chain, before_all, all_said, joined_said}
 
 module _ (join : Joined → Joined → List Term) (name : ℕ) where
   abbrev joins : Term → Joined

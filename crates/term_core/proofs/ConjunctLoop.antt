@@ -9,8 +9,8 @@ use Rattle.term_core.specs.Shapes.{pair_of}
 use Rattle.term_core.specs.Sizes.{size, size_step}
 use Rattle.term_core.proofs.Sizes.{size_pos}
 use Rattle.term_core.proofs.TermFolds.{fold-Node}
-use Rattle.term_operands.specs.Operands.{conjuncts}
-use Rattle.term_operands.proofs.OperandLaws.{conjuncts_alone, conjuncts_two}
+use Rattle.term_core.specs.Operands.{conjuncts}
+use Rattle.term_core.proofs.OperandLaws.{conjuncts_alone, conjuncts_two}
 
 -- what the terms of a stack join, from the top
 abbrev pub stack_conjuncts : List Term → List Term

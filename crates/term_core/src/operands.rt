@@ -1,10 +1,10 @@
 // The terms that commas join.
 ghost use Rattle.std.specs.Prelude.{◌≡◌, map, IfOk};
-ghost use Rattle.term_operands.specs.Operands.{conjuncts};
+ghost use Rattle.term_core.specs.Operands.{conjuncts};
 
+use crate::{COMMA, NoMemory, Term};
 use sqlite_items::Items;
 use std::alloc::Global;
-use term_core::{COMMA, NoMemory, Term};
 
 /// The terms that commas join in a term, from the left, however they are grouped.
 pub fn conjuncts<'a>(alloc: Global, term: &'a Term) -> Result<Items<&'a Term>, NoMemory>

@@ -22,6 +22,7 @@ compound_joined join name f (l ∷ r ∷ []) =
     if f == name then record { whole = term.Node f (l.whole ∷ r.whole ∷ []); items = join l r } else alone (term.Node f (l.whole ∷ r.whole ∷ []))
 compound_joined join name f parts = alone (term.Node f (map (λ p. p.whole) parts))
 
+-- a term and what is joined in it, by its outermost and the same of its parts
 abbrev pub joined_step : (Joined → Joined → List Term) → ℕ → Term-F Joined → Joined
 joined_step join name (Var v) = alone (term.Var v)
 joined_step join name (Int n) = alone (term.Int n)
