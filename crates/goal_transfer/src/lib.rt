@@ -12,6 +12,3 @@ mod values;
 
 pub use laws::{exit_law, given_law, monotone_law};
 pub use states::{Effect, Reached, State};
-
-#[cfg(test)]
-mod tests;

@@ -10,6 +10,3 @@ pub use conditions::{
 };
 pub use membership::belongs;
 pub use properties::{all_hold, holds};
-
-#[cfg(test)]
-mod tests;

@@ -16,8 +16,6 @@ mod quoting;
 mod shapes;
 mod standard;
 mod terms;
-#[cfg(test)]
-mod tests;
 
 pub use characters::is_lower_word;
 pub use characters::is_point;

@@ -12,6 +12,3 @@ mod values;
 pub use compounds::{build, project};
 pub use laws::{given_law, monotone_law, order_law, terms_law};
 pub use values::{join, leq, meet, of_atom, of_int, of_name};
-
-#[cfg(test)]
-mod tests;

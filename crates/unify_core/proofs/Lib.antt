@@ -9,5 +9,4 @@ mod PairLaws
 mod PairSizes
 mod PairSteps
 mod ReduceLaws
-mod TestPremises
 mod UnifyLaws

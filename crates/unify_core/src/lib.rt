@@ -1,16 +1,12 @@
 //! Unification of places of a heap.
 #![tactic(auto)]
 
-#[cfg(test)]
-mod head_tests;
 mod laws;
 mod matching;
 mod meet;
 mod occurs;
 mod pairs;
 mod reduce;
-#[cfg(test)]
-mod tests;
 mod unifying;
 
 pub use laws::new_law;
