@@ -15,7 +15,7 @@ no_more : (cs : List ReachedCall) → cs ++ [] ≡ cs
 no_more [] = refl
 no_more (c ∷ cs) = ap (λ ds. c ∷ ds) (no_more cs)
 
-exit_is : (b : Goal) → is_exit (out-Goal b) ≡ true → b ≡ goal.Exit
+pub exit_is : (b : Goal) → is_exit (out-Goal b) ≡ true → b ≡ goal.Exit
 exit_is b e = by_layer (out-Goal b) (roll-out-Goal b) e
   where
     by_layer : (x : layer.Goal-F Goal) → roll-Goal x ≡ b → is_exit x ≡ true → b ≡ goal.Exit

@@ -8,3 +8,10 @@ mod Rows
 mod ExitRuns
 mod Given
 mod ClausesGiven
+mod GoalRuns
+mod BodyRanges
+mod NameTests
+mod Named
+mod StoredExits
+mod Effects
+mod Narrowed

@@ -1,12 +1,13 @@
 -- A value put into its place, as values of variables.
-use Rattle.std.proofs.Common.{◌≡◌, ℕ, zero, suc, ◌<◌, Bool, true, false, ◌&&◌, List, [], ◌∷◌, length, map, refl, ap, sym, ◌∙◌, arith, true≢false}
+use Rattle.std.proofs.Common.{◌≡◌, ℕ, zero, suc, ◌<◌, ◌≤◌, Bool, true, false, ◌&&◌, List, [], ◌∷◌, ◌++◌, length, map, drop, refl, ap, sym, ◌∙◌, arith, true≢false, append-nil}
 use Rattle.std.proofs.lemmas.Bool.Decides.{nat_tests}
+use Rattle.std.proofs.lemmas.List.{drop_all}
 use Rattle.std.specs.Prelude.{◌==◌, slice_index_or, slice_set, None, Some, option_map, if◌then◌else◌}
 use Rattle.prog_data.specs.declared.tables.Value.{Value}
 use Rattle.prog_data.specs.Values.{TypeValue, bit_at, seen}
 use Rattle.name_order.specs.Relations.{Order}
 use Rattle.type_domain.specs.Values.{term_name, join, of_name}
-use Rattle.goal_transfer.specs.Conditions.{join_each}
+use Rattle.goal_transfer.specs.Conditions.{meet_each, join_each}
 use Rattle.goal_transfer.specs.Transfer.{Values, known_where, with_changed, set_value, join_known}
 use Rattle.goal_transfer.specs.States.{values_seen}
 
@@ -59,8 +60,34 @@ joins_seen o new others old e is = λ i v. at v i
     at : (v : ℕ) → values_seen o new v ≡ join (values_seen o others v) (values_seen o old v)
     at v = ap (λ xs. slice_index_or xs v (of_name o term_name)) is ∙ joined_seen o (map seen others) (map seen old) (map_count seen others ∙ e ∙ sym (map_count seen old)) v
 
+join_count : (as' bs : List TypeValue) → length as' ≡ length bs → length (join_each as' bs) ≡ length as'
+join_count [] bs e = refl
+join_count (a ∷ as') [] e = cc
+join_count (a ∷ as') (b ∷ bs) e = ap suc (join_count as' bs (omega (arith, e)))
+
+-- as many as before
+pub joined_count : (new others old : List Value) → length old ≡ length others → map seen new ≡ join_each (map seen others) (map seen old) → length old ≡ length new
+joined_count new others old e is =
+    e ∙ sym (map_count seen others) ∙ sym (join_count (map seen others) (map seen old) (map_count seen others ∙ sym e ∙ sym (map_count seen old))) ∙ sym (ap length is) ∙ map_count seen new
+
 pub either_kept : (o : Order) (a b : Bool) (new others old : List Value) → a ≡ true → b ≡ true → values_seen o new ≡ (λ v. join (values_seen o others v) (values_seen o old v)) →
     Some (values_seen o new) ≡ join_known (known_where a (values_seen o others)) (known_where b (values_seen o old))
 either_kept o true true new others old e f is = ap Some is
 either_kept o true false new others old e f is = absurd (true≢false (sym f))
 either_kept o false b new others old e f is = absurd (true≢false (sym e))
+
+-- lists met or joined as far as the second one goes
+
+meet_none : (o : Order) (xs : List TypeValue) → meet_each o xs [] ≡ []
+meet_none o [] = refl
+meet_none o (x ∷ xs) = refl
+
+join_none : (xs : List TypeValue) → join_each xs [] ≡ []
+join_none [] = refl
+join_none (x ∷ xs) = refl
+
+pub met_end : (o : Order) (made all xs : List TypeValue) (ws : List Value) (i : ℕ) → length ws ≤ i → made ++ meet_each o xs (map seen (drop i ws)) ≡ all → made ≡ all
+met_end o made all xs ws i le had = sym (append-nil made) ∙ ap (λ ys. made ++ ys) (sym (meet_none o xs)) ∙ ap (λ ys. made ++ meet_each o xs (map seen ys)) (sym (drop_all i ws le)) ∙ had
+
+pub joined_end : (made all xs : List TypeValue) (ws : List Value) (i : ℕ) → length ws ≤ i → made ++ join_each xs (map seen (drop i ws)) ≡ all → made ≡ all
+joined_end made all xs ws i le had = sym (append-nil made) ∙ ap (λ ys. made ++ ys) (sym (join_none xs)) ∙ ap (λ ys. made ++ join_each xs (map seen ys)) (sym (drop_all i ws le)) ∙ had

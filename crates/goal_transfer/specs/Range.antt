@@ -1,7 +1,9 @@
--- Which values the analysis keeps.
+-- Which values the analysis keeps, and which properties it takes.
 -- The headline does not rest on this file.
-use Rattle.std.specs.Prelude.{◌≡◌, ℕ, ◌<◌, true, List, length, Option, None, Some}
+use Rattle.std.specs.Prelude.{◌≡◌, ℕ, ◌<◌, nat_lt, Bool, true, List, length, Option, None, Some}
 use Rattle.std.specs.List.{AllByRecursion}
+use Rattle.prog_data.specs.declared.conditions.Prop.{Prop}
+use Rattle.prog_data.specs.declared.conditions.Prop.TheVariants.{Belongs}
 use Rattle.prog_data.specs.declared.programs.Program.{Program}
 use Rattle.prog_data.specs.Goals.{pred_of}
 use Rattle.prog_data.specs.Values.{TypeValue}
@@ -35,3 +37,8 @@ ExitsGiven o (Some vs) = AllByRecursion (IsValue o) vs
 pub record OutcomeGiven (program : Program) (o : Order) (out : Outcome) : Type 0 where
   pub known : KnownGiven o out.known
   pub calls : AllByRecursion (CallGiven program o) out.calls
+
+-- whether the grammar name that a property asks for, if it asks for one, is one of so many
+abbrev pub is_named : ℕ → Prop → Bool
+is_named size (Belongs i n) = nat_lt n size
+is_named size other = true

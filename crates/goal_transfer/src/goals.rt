@@ -19,8 +19,8 @@ use sqlite_items::Items;
 use std::alloc::Global;
 use term_core::{NoMemory, Term};
 
-// The values of terms.
-fn values_of(
+/// The values of terms.
+pub(crate) fn values_of(
     alloc: Global,
     grammar: &Grammar,
     rel: &Relations,

@@ -5,7 +5,7 @@ mod InLaws
 mod LeafLists
 mod LeqLaws
 mod Lists
-mod NameLoops
+pub mod NameLoops
 mod Orders
 mod Parts
 mod Stored

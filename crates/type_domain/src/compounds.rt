@@ -14,8 +14,8 @@ use crate::values::{join, meet, of_name};
 use name_order::Relations;
 use prog_data::{Basic, GND_TYPE, Grammar, Rule, TERM_TYPE, Value};
 
-// Whether no value is none.
-fn all_set(parts: &[Value]) -> bool
+/// Whether no value is none.
+pub fn all_set(parts: &[Value]) -> bool
     ensures { result ≡ list_all is_set (map seen parts.now) }
 {
     for part in parts {

@@ -23,7 +23,7 @@ pub(crate) enum Wanted {
 }
 
 /// Whether a value is not none and has the name.
-pub(crate) fn has_name(value: &Value, name: u64) -> bool
+pub fn has_name(value: &Value, name: u64) -> bool
     requires { name < 512 }
     ensures { result ≡ has_name (seen value.now) name }
 {

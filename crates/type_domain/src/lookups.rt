@@ -20,7 +20,7 @@ pub(crate) fn is_below(rel: &Relations, first: u64, second: u64) -> bool
 }
 
 /// Whether the names meet.
-pub(crate) fn do_meet(rel: &Relations, first: u64, second: u64) -> bool
+pub fn do_meet(rel: &Relations, first: u64, second: u64) -> bool
     requires first { first < length rel.now.rules }
     requires second { second < length rel.now.rules }
     ensures { result ≡ (order rel.now).meets first second }
