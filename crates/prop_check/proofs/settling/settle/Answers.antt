@@ -20,9 +20,9 @@ loop-step-preserved c =
 pub returns-then-is_same : goal.returns-then-is_same
 returns-then-is_same c =
     settled_early c.args.grammar.now c.requires.few (bit_at c.args.reach.now) c.requires.closed (leaf_holds (sets_behind (option_copied c.args.behind)) (out-Term c.args.term.now)) c.loop-step.found c.round-next.result c.loop-step._step
-    (length c.args.grammar.now.rules) (c.is_same.ensures.0 c.if-is_same.true) (omega (arith, c.loop-step-test.true, c.len-end.ensures)) c.loop-step.invariant c.round-next.ensures
+    (length c.args.grammar.now.rules) (c.is_same.ensures.0 c.if-is_same.true) (omega (arith, c.loop-step-test.true, c.len-step-end.ensures)) c.loop-step.invariant c.round-next.ensures
 
 pub returns : goal.returns
 returns c =
     settled_late c.args.grammar.now c.requires.few (bit_at c.args.reach.now) c.requires.closed (leaf_holds (sets_behind (option_copied c.args.behind)) (out-Term c.args.term.now)) (bit_at c.loop-step.found) c.loop-step._step
-    (length c.args.grammar.now.rules) (omega (arith, c.loop-step-test.false, c.loop-step.auto._step-end, c.len-end.ensures)) c.loop-step.invariant
+    (length c.args.grammar.now.rules) (omega (arith, c.loop-step-test.false, c.loop-step.auto._step-end, c.len-step-end.ensures)) c.loop-step.invariant
