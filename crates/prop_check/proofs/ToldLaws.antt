@@ -8,7 +8,7 @@ use Rattle.std.proofs.Math.Bool.{or-false}
 use Rattle.std.proofs.lemmas.List.{at_drop_all}
 use Rattle.term_core.specs.Sizes.{size, size_all}
 use Rattle.term_core.specs.Shapes.{is_compound}
-use Rattle.term_core.specs.declared.terms.Term.{Term, Var, Int, Atom, Node, out-Term}
+use Rattle.term_core.specs.declared.terms.Term.{Term, Node, out-Term}
 use Rattle.term_core.specs.declared.terms.Term.TheVariants.{outs-Var, outs-Int, outs-Atom, outs-Node}
 use Rattle.term_core.proofs.Turns.{turn}
 use Rattle.term_core.proofs.TermFolds.{fold-Var, fold-Int, fold-Atom, fold-Node, ind_terms}

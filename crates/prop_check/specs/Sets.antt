@@ -1,6 +1,6 @@
 -- What of a set of grammar names a term belongs to.
 -- The headline does not rest on this file.
-use Rattle.std.specs.Prelude.{◌≡◌, ◌<◌, ◌≤◌, ℕ, zero, suc, ◌==◌, Bool, true, false, ◌&&◌, List, [], ◌∷◌, length, Option, Some, None, slice_get, drop, if◌then◌else◌}
+use Rattle.std.specs.Prelude.{◌≡◌, ◌<◌, ◌≤◌, ℕ, suc, ◌==◌, Bool, true, false, ◌&&◌, List, [], ◌∷◌, length, Option, Some, None, slice_get, drop, if◌then◌else◌}
 use Rattle.std.specs.List.{list_any, list_all}
 use Rattle.term_core.specs.declared.terms.Term.{Term}
 use Rattle.term_core.specs.declared.terms.Term as term
@@ -8,7 +8,7 @@ use Rattle.term_core.specs.declared.terms.Term.TheOpen as layer
 use Rattle.prog_data.specs.declared.basic_names.TheConstants.{GND_TYPE}
 use Rattle.prog_data.specs.declared.grammars.Basic.TheVariants as basic
 use Rattle.prog_data.specs.declared.grammars.Rule.{Rule}
-use Rattle.prog_data.specs.declared.grammars.Rule.TheVariants.{Basic as BasicRule, Int, Atom, Node, Unit as UnitRule}
+use Rattle.prog_data.specs.declared.grammars.Rule.TheVariants.{Basic as BasicRule, Node, Unit as UnitRule}
 use Rattle.prog_data.specs.declared.grammars.Grammar.{Grammar}
 use Rattle.prog_data.specs.Membership.{rules_of, admits_var, admits_int, admits_atom, belongs}
 use Rattle.prop_check.specs.declared.gathering.Look.{Look}

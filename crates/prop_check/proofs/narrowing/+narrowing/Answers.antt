@@ -1,4 +1,4 @@
-use Rattle.std.proofs.Common.{◌≡◌, ℕ, suc, ◌+◌, ◌-◌, take, sym, subst, arith}
+use Rattle.std.proofs.Common.{◌≡◌, suc, ◌+◌, ◌-◌, take, sym, subst, arith}
 use Rattle.std.specs.Prelude.{option_copied}
 use Rattle.term_core.specs.Sizes.{size, size_all}
 use Rattle.term_core.proofs.Sizes.{size_pos}

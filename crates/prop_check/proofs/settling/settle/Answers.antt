@@ -1,4 +1,4 @@
-use Rattle.std.proofs.Common.{ℕ, ◌+◌, length, refl, arith}
+use Rattle.std.proofs.Common.{◌+◌, length, refl, arith}
 use Rattle.std.specs.Prelude.{option_copied}
 use Rattle.term_core.specs.declared.terms.Term.{out-Term}
 use Rattle.prog_data.specs.Values.{bit_at}
