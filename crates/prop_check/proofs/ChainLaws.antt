@@ -11,6 +11,6 @@ use Rattle.prop_check.specs.Chains.{link, sets_of, sets_behind}
 pub goes_on : (o : Option Known) (k : Known) → o ≡ Some k → false ≡ each_has (sets_behind o) []
 goes_on o k e = sym (ap (λ p. each_has (sets_behind p) []) e ∙ ap (λ s. each_has s []) (fold_out-Known (List (ℕ → Bool)) link k))
 
-pub sets_linked : (names : List ℕ) (behind : Option (Bor Known)) → sets_of (roll-Known (record { names = names; behind = behind })) ≡ bit_at names ∷ sets_behind (option_copied behind)
+pub sets_linked : (names : Bor (List ℕ)) (behind : Option (Bor Known)) → sets_of (roll-Known (record { names = names; behind = behind })) ≡ bit_at names.now ∷ sets_behind (option_copied behind)
 sets_linked names None = fold-roll-Known (List (ℕ → Bool)) link (record { names = names; behind = None })
 sets_linked names (Some k) = fold-roll-Known (List (ℕ → Bool)) link (record { names = names; behind = Some k })

@@ -13,7 +13,7 @@ rest_of (Some sets) = sets
 
 -- a set and those behind it
 abbrev pub link : Known-F (List (ℕ → Bool)) → List (ℕ → Bool)
-link k = bit_at k.names ∷ rest_of (option_copied k.behind)
+link k = bit_at k.names.now ∷ rest_of (option_copied k.behind)
 
 -- the sets of a chain
 abbrev pub sets_of : Known → List (ℕ → Bool)

@@ -1,6 +1,7 @@
 // The names to which the parts of a compound belong, as a chain on the stack.
 ghost use Rattle.std.specs.Prelude.{◌≡◌, ◌&&◌, ◌∷◌, [], option_copied};
 ghost use Rattle.std.specs.List.{list_all};
+ghost use Rattle.prog_data.specs.Values.{bit_at};
 ghost use Rattle.prog_data.specs.declared.basic_names.TheConstants.{GND_TYPE};
 ghost use Rattle.prop_check.specs.Sets.{each_has};
 ghost use Rattle.prop_check.specs.Chains.{sets_of, sets_behind};
@@ -11,8 +12,15 @@ use prog_data::GND_TYPE;
 /// The names to which a part of a compound belongs, and the parts behind it.
 #[derive(Clone, Copy)]
 pub(crate) struct Known<'a> {
-    pub(crate) names: [u64; 8],
+    pub(crate) names: &'a [u64; 8],
     pub(crate) behind: Option<&'a Known<'a>>,
+}
+
+/// A part, before those behind it.
+pub(crate) fn link<'a>(names: &'a [u64; 8], behind: Option<&'a Known<'a>>) -> Known<'a>
+    ensures { sets_of result ≡ bit_at names.now ∷ sets_behind (option_copied behind.entry) }
+{
+    Known { names, behind }
 }
 
 // Whether there is no part.
@@ -30,7 +38,7 @@ fn is_end(behind: Option<&Known>) -> bool
 fn first_has(known: &Known, first: u64, rest: &[u64]) -> bool
     ensures { result ≡ each_has (sets_of known.now) (first ∷ rest.now) }
 {
-    if !has(&known.names, first) {
+    if !has(known.names, first) {
         return false;
     }
     all_have(known.behind, rest)
@@ -54,7 +62,7 @@ pub(crate) fn all_have(behind: Option<&Known>, names: &[u64]) -> bool
 fn from_ground(known: &Known) -> bool
     ensures { result ≡ list_all (λ has. has GND_TYPE) (sets_of known.now) }
 {
-    if !has(&known.names, GND_TYPE) {
+    if !has(known.names, GND_TYPE) {
         return false;
     }
     match known.behind {

@@ -78,27 +78,29 @@ fn add_from(names: &mut [u64; 8], grammar: &Grammar, from: &[u64; 8], look: Look
     }
 }
 
-/// The names of one set, and those that a look finds in the rules of the names of another.
-pub(crate) fn gather(grammar: &Grammar, from: &[u64; 8], look: Look, start: &[u64; 8]) -> [u64; 8]
-    ensures kept { (n : ℕ) → bit_at start.now n ≡ true → bit_at result n ≡ true }
-    ensures found { (n m : ℕ) → bit_at from.now n ≡ true → finds grammar.now look n m ≡ true → m < 512 → bit_at result m ≡ true }
+/// Adds the names that a look finds in the rules of the names of a set. It is called between two calls of a recursion,
+/// whose frames its own variables are not to be part of.
+#[inline(never)]
+pub(crate) fn gather(grammar: &Grammar, from: &[u64; 8], look: Look, names: &mut [u64; 8])
+    ensures kept { (n : ℕ) → bit_at names.old n ≡ true → bit_at names.new n ≡ true }
+    ensures found { (n m : ℕ) → bit_at from.now n ≡ true → finds grammar.now look n m ≡ true → m < 512 → bit_at names.new m ≡ true }
 {
-    let mut names = *start;
     for name in 0..grammar.rules.len() as u64 {
-        add_from(&mut names, grammar, from, look, name);
+        add_from(names, grammar, from, look, name);
     }
-    names
 }
 
 /// The names of a set, and those to which unit rules lead from them. Each round but the last adds a name, so what is
 /// left after as many rounds as there are names is closed; all names are too, and that needs no proof.
+#[inline(never)]
 pub(crate) fn reach(grammar: &Grammar, asked: &[u64; 8]) -> [u64; 8]
     ensures asked { (n : ℕ) → bit_at asked.now n ≡ true → bit_at result n ≡ true }
     ensures closed { IsClosed grammar.now (bit_at result) }
 {
     let mut names = *asked;
     for _ in 0..grammar.rules.len() {
-        let next = gather(grammar, &names, Look::Units, &names);
+        let mut next = names;
+        gather(grammar, &names, Look::Units, &mut next);
         if is_same(&next, &names) {
             return names;
         }

@@ -6,15 +6,16 @@ ghost use Rattle.prog_data.specs.Membership.{belongs};
 ghost use Rattle.prop_check.specs.Sets.{Fits, IsTold};
 ghost use Rattle.prop_check.specs.Chains.{sets_behind};
 
-use crate::chains::Known;
+use crate::chains::{Known, link};
 use crate::gathering::{Look, gather, reach};
 use crate::sets::is_same;
 use crate::settling::settle;
 use prog_data::Grammar;
 use term_core::Term;
 
-// The names of a closed set to which a compound belongs, where some of its first parts are left to be looked at, and the
-// names of those behind them are known. The last part comes first: so a list goes down its tail before its items.
+// Makes a set that of the names of a closed one to which a compound belongs, where some of its first parts are left to be
+// looked at, and the names of those behind them are known. The last part comes first: so a list goes down its tail before
+// its items.
 #[cycle(narrowing)]
 fn narrowed(
     grammar: &Grammar,
@@ -24,18 +25,30 @@ fn narrowed(
     parts: &[Term],
     left: usize,
     behind: Option<&Known>,
-) -> [u64; 8]
+    names: &mut [u64; 8],
+)
     requires { IsTold grammar.now (bit_at reach.now) term.now name parts.now left (sets_behind (option_copied behind)) }
-    ensures { (n : ℕ) → bit_at result n ≡ (bit_at reach.now n && belongs grammar.now term.now n) }
+    ensures { (n : ℕ) → bit_at names.new n ≡ (bit_at reach.now n && belongs grammar.now term.now n) }
 {
     if left == 0 {
-        return settle(grammar, reach, term, behind);
+        settle(grammar, reach, term, behind, names);
+        return;
     }
     let place = left - 1;
-    let mut names = gather(grammar, reach, Look::Part(name, place), &[0; 8]);
-    narrow(grammar, &mut names, &parts[place]);
-    let known = Known { names, behind };
-    narrowed(grammar, reach, term, name, parts, place, Some(&known))
+    let mut asked = [0; 8];
+    gather(grammar, reach, Look::Part(name, place), &mut asked);
+    narrow(grammar, &mut asked, &parts[place]);
+    let known = link(&asked, behind);
+    narrowed(
+        grammar,
+        reach,
+        term,
+        name,
+        parts,
+        place,
+        Some(&known),
+        names,
+    );
 }
 
 /// Leaves in a set the names to which the term belongs, and perhaps others that were not in it.
@@ -49,11 +62,18 @@ pub(crate) fn narrow(grammar: &Grammar, names: &mut [u64; 8], term: &Term)
     }
     let closed = reach(grammar, names);
     match term.compound() {
-        None => {
-            *names = settle(grammar, &closed, term, None);
-        }
+        None => settle(grammar, &closed, term, None, names),
         Some((name, parts)) => {
-            *names = narrowed(grammar, &closed, term, name, parts, parts.len(), None);
+            narrowed(
+                grammar,
+                &closed,
+                term,
+                name,
+                parts,
+                parts.len(),
+                None,
+                names,
+            );
         }
     }
 }

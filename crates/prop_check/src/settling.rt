@@ -119,25 +119,28 @@ fn round(
     names
 }
 
-/// The names of a closed set to which a term belongs, by the names to which its parts belong: rounds over the names,
-/// each of which follows one more unit rule, until a round finds nothing new.
+/// Makes a set that of the names of a closed one to which a term belongs, by the names to which its parts belong: rounds
+/// over the names, each of which follows one more unit rule, until a round finds nothing new.
+#[inline(never)]
 pub(crate) fn settle(
     grammar: &Grammar,
     reach: &[u64; 8],
     term: &Term,
     behind: Option<&Known>,
-) -> [u64; 8]
+    names: &mut [u64; 8],
+)
     requires few { length grammar.now.rules ≤ 512 }
     requires closed { IsClosed grammar.now (bit_at reach.now) }
-    ensures { (n : ℕ) → bit_at result n ≡ (bit_at reach.now n && list_any (leaf_holds (sets_behind (option_copied behind.entry)) (out-Term term.now)) (leaves grammar.now n)) }
+    ensures { (n : ℕ) → bit_at names.new n ≡ (bit_at reach.now n && list_any (leaf_holds (sets_behind (option_copied behind.entry)) (out-Term term.now)) (leaves grammar.now n)) }
 {
     let mut found = round(grammar, reach, term, behind, &[0; 8]);
     for _step in 0..grammar.rules.len() {
         let next = round(grammar, reach, term, behind, &found);
         if is_same(&next, &found) {
-            return found;
+            *names = found;
+            return;
         }
         found = next;
     }
-    found
+    *names = found;
 }

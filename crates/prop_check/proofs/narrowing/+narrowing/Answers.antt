@@ -12,7 +12,7 @@ use Rattle.prop_check.proofs.narrowing.+narrowing.Goals as goal
 
 pub narrowed-returns-then-left-eq0 : goal.narrowed-returns-then-left-eq0
 narrowed-returns-then-left-eq0 t c =
-    all_looked_at c.args.grammar.now (bit_at c.args.reach.now) c.args.term.now c.args.name c.args.parts.now c.args.left (sets_behind (option_copied c.args.behind)) (bit_at c.settle.result) c.requires c.if-left-eq0.true c.settle.ensures
+    all_looked_at c.args.grammar.now (bit_at c.args.reach.now) c.args.term.now c.args.name c.args.parts.now c.args.left (sets_behind (option_copied c.args.behind)) (bit_at c.settle.new.names) c.requires c.if-left-eq0.true c.settle.ensures
 
 pub narrowed-narrow-requires : goal.narrowed-narrow-requires
 narrowed-narrow-requires t c =
@@ -35,7 +35,7 @@ narrowed-narrowed-requires t c =
     let next : suc place ≡ c.args.left = omega (arith, c.if-left-eq0.false) in
     let whole : size_all (take c.args.left parts) ≡ size_all (take place parts) + size part = part_size g reach c.args.term.now c.args.name parts c.args.left place behind c.requires next part c.index-parts-place.is in (
       omega (arith, whole, size_pos part, c.decreases),
-      subst (IsTold g reach c.args.term.now c.args.name parts place) (sym (sets_linked c.narrow.new.names c.args.behind))
-          (one_more_told g reach c.args.term.now c.args.name parts c.args.left place behind c.requires next part c.index-parts-place.is (bit_at c.gather-names.result) (bit_at c.narrow.new.names) c.gather-names.ensures.found c.narrow.ensures
+      subst (IsTold g reach c.args.term.now c.args.name parts place) (sym c.link-known.ensures)
+          (one_more_told g reach c.args.term.now c.args.name parts c.args.left place behind c.requires next part c.index-parts-place.is (bit_at c.gather.new.names) (bit_at c.narrow.new.names) c.gather.ensures.found c.narrow.ensures
           (λ m le. beyond c.narrow.new.names m c.narrow.array_long le)),
     )
