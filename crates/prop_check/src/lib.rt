@@ -1,9 +1,14 @@
 //! When terms belong to grammar names, and when properties and conditions hold of arguments, as these stand.
 #![tactic(auto)]
 
+mod chains;
 mod conditions;
+mod gathering;
 mod membership;
+mod narrowing;
 mod properties;
+mod sets;
+mod settling;
 
 pub use conditions::{
     calls_hold, exit_breaks, failure_breaks, is_comp, is_success, post_holds, pre_holds,
