@@ -5,7 +5,6 @@ use Rattle.term_core.proofs.Sizes.{size_pos}
 use Rattle.prog_data.specs.Values.{bit_at}
 use Rattle.prop_check.specs.Sets.{IsTold}
 use Rattle.prop_check.specs.Chains.{sets_behind}
-use Rattle.prop_check.proofs.ChainLaws.{sets_linked}
 use Rattle.prop_check.proofs.SetLaws.{beyond}
 use Rattle.prop_check.proofs.ToldLaws.{all_looked_at, part_size, one_more_told}
 use Rattle.prop_check.proofs.narrowing.+narrowing.Goals as goal
