@@ -283,8 +283,8 @@ type Limit = (
     &'static str,
 );
 
-const LIMITS: [Limit; 20] = [
-    // parentheses, prefix operators, arguments and elements
+// Parentheses, prefix operators, arguments and elements.
+const LIMITS_AROUND: [Limit; 10] = [
     ("(", 4095, "a", ")", "", "read"),
     ("(", 4096, "a", ")", "", "deep 1"),
     ("(", 100_000, "a", ")", "", "deep 1"),
@@ -295,6 +295,9 @@ const LIMITS: [Limit; 20] = [
     ("[a|", 100_000, "[]", "]", "", "deep 1"),
     ("f(", 100_000, "a", ")", "", "deep 1"),
     ("\"", 1, "a", "\"", "", "read"),
+];
+
+const LIMITS_BEHIND: [Limit; 10] = [
     ("", 254, "p(a", ",a", ")", "read"),
     ("", 255, "p(a", ",a", ")", "syntax 1"),
     ("", 4094, "[a", ",a", "]", "read"),
@@ -339,6 +342,12 @@ fn first_other_limit(alloc: Global, rows: &[Limit]) -> Result<Option<usize>, NoM
 
 #[test]
 fn limits_of_a_sentence(rt: HostRuntime) -> Result<(), Fail> {
-    assert_eq!(rt; first_other_limit(rt.alloc(), &LIMITS)?, None);
+    assert_eq!(rt; first_other_limit(rt.alloc(), &LIMITS_AROUND)?, None);
+    Ok(())
+}
+
+#[test]
+fn limits_behind_one_another(rt: HostRuntime) -> Result<(), Fail> {
+    assert_eq!(rt; first_other_limit(rt.alloc(), &LIMITS_BEHIND)?, None);
     Ok(())
 }
