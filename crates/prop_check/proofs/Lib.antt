@@ -1,2 +1,7 @@
 mod Absent
 mod Belonging
+mod ChainLaws
+mod GatherLaws
+mod RoundLaws
+mod SetLaws
+mod ToldLaws

@@ -1,1 +1,3 @@
 pub mod Belonging
+pub mod Chains
+pub mod Sets

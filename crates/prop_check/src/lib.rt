@@ -1,15 +1,17 @@
 //! When terms belong to grammar names, and when properties and conditions hold of arguments, as these stand.
 #![tactic(auto)]
 
+mod chains;
 mod conditions;
+mod gathering;
 mod membership;
+mod narrowing;
 mod properties;
+mod sets;
+mod settling;
 
 pub use conditions::{
     calls_hold, exit_breaks, failure_breaks, is_comp, is_success, post_holds, pre_holds,
 };
 pub use membership::belongs;
 pub use properties::{all_hold, holds};
-
-#[cfg(test)]
-mod tests;

@@ -5,7 +5,7 @@ use Rattle.std.proofs.lemmas.Bool.{and_parts}
 use Rattle.term_core.specs.declared.fixed.TheConstants.{NIL, CELL}
 use Rattle.term_core.specs.declared.terms.Term.{Term}
 use Rattle.term_core.specs.declared.terms.Term as term
-use Rattle.term_operands.proofs.OperandLaws.{none_part, some_part, eqb-eq}
+use Rattle.term_core.proofs.OperandLaws.{none_part, some_part, eqb-eq}
 use Rattle.prog_data.specs.declared.grammars.Rule.{Rule}
 use Rattle.prog_data.specs.declared.grammars.Rule.TheVariants as rule
 use Rattle.prog_data.specs.declared.grammars.Grammar.{Grammar}

@@ -7,7 +7,7 @@ use Rattle.std.proofs.lemmas.List.{length-append}
 use Rattle.prog_data.specs.declared.grammars.Rule.{Rule}
 use Rattle.prog_data.specs.declared.grammars.Grammar.{Grammar}
 use Rattle.prog_data.specs.GrammarRange.{names_in, is_rule_of, IsGrammar}
-use Rattle.term_operands.proofs.OperandLaws.{none_part, some_part}
+use Rattle.term_core.proofs.OperandLaws.{none_part, some_part}
 use Rattle.regtype_grammar.specs.Lists.{most_names, list_rules, are_list_rules, list_from, found_list, Listed, with_list, found_or_added, list_of, ListsStayInRange}
 use Rattle.regtype_grammar.proofs.EachLaws.{each_append, test_each, each_more}
 use Rattle.regtype_grammar.proofs.BelowLaws.{IsRuleBelow, AreRulesBelow, AllRulesBelow}

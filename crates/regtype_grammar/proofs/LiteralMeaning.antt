@@ -10,7 +10,7 @@ use Rattle.prog_data.specs.declared.grammars.Rule.{Rule}
 use Rattle.prog_data.specs.declared.grammars.Rule.TheVariants as rule
 use Rattle.prog_data.specs.declared.grammars.Grammar.{Grammar}
 use Rattle.prog_data.specs.Membership.{rules_of, Belongs}
-use Rattle.term_operands.proofs.OperandLaws.{none_part, some_part, eqb-eq}
+use Rattle.term_core.proofs.OperandLaws.{none_part, some_part, eqb-eq}
 use Rattle.regtype_grammar.specs.declared.literals.Literal.{Literal}
 use Rattle.regtype_grammar.specs.declared.meanings.Meaning.{Meaning}
 use Rattle.regtype_grammar.specs.declared.numbering.KnownList.{KnownList}

@@ -9,7 +9,7 @@ use Rattle.prog_data.specs.declared.grammars.Grammar.{Grammar}
 use Rattle.prog_data.specs.declared.grammars.Seen.{Seen}
 use Rattle.prog_data.specs.BasicNames.{basic_grammar}
 use Rattle.prog_data.specs.GrammarRange.{names_in, is_rule_of, IsGrammar}
-use Rattle.term_operands.proofs.OperandLaws.{none_part, some_part}
+use Rattle.term_core.proofs.OperandLaws.{none_part, some_part}
 use Rattle.regtype_grammar.specs.declared.meanings.Meaning.{Meaning}
 use Rattle.regtype_grammar.specs.declared.modules.RegType.{RegType}
 use Rattle.regtype_grammar.specs.declared.modules.SeenType.{SeenType}
