@@ -1,5 +1,5 @@
 -- What cells say of the terms of their places, and the parts of a compound in cells.
-use Rattle.std.proofs.Common.{◌≡◌, ◌⊎◌, inl, inr, ◌<◌, ◌≤◌, ℕ, zero, suc, ◌+◌, ◌-◌, Bool, true, false, List, [], ◌∷◌, ◌++◌, length, map, drop, get_or, slice_get, refl, sym, ap, ◌∙◌, subst, arith, true≢false}
+use Rattle.std.proofs.Common.{◌≡◌, ◌⊎◌, inl, inr, ◌<◌, ◌≤◌, ℕ, zero, suc, ◌+◌, ◌-◌, Bool, true, false, List, [], ◌∷◌, ◌++◌, length, map, take, get_or, slice_get, refl, sym, ap, ◌∙◌, subst, arith, true≢false}
 use Rattle.std.specs.Prelude.{Some, None}
 use Rattle.term_core.specs.declared.terms.Term.{Term, out-Term, Var, Int, Atom, Node}
 use Rattle.term_core.specs.declared.terms.Term.TheVariants.{outs-Var, outs-Int, outs-Atom, outs-Node}
@@ -15,12 +15,14 @@ use Rattle.prog_data.specs.declared.grammars.Grammar.{Grammar}
 use Rattle.prog_data.specs.Membership.{rules_of, admits, admits_step, belongs}
 use Rattle.prog_data.proofs.Leaves.{In}
 use Rattle.prop_check.specs.declared.looks.Parts.{Parts}
+use Rattle.prop_check.specs.declared.heads.Head.{Head}
 use Rattle.prop_check.specs.declared.heads.Head.TheVariants as head
 use Rattle.prop_check.specs.Heads.{head_of, cell_head}
 use Rattle.prop_check.specs.Places.{row_at, compound_at, HasArgument, Says, HasLast, HasNoLast}
 use Rattle.prop_check.specs.Sets.{Fits, IsClosed, IsTold, head_holds}
 use Rattle.prop_check.specs.OneOf.{SomeBelongs, SomeRule, AreLed, is_whole, AsksLast}
 use Rattle.prop_check.proofs.ToldLaws.{node_told}
+use Rattle.prop_check.proofs.OneOfLaws.{from_rule, a_rule, whole_some}
 
 -- the cell at the end of references says what the term of their place is
 pub says : (h : List Change) (place root : ℕ) (c : Cell) → IsMade h → root < size_of h → IsEnd (cell_at (cells_of h) root) → value_of h root ≡ value_of h place → c ≡ cell_at (cells_of h) root → Says h (value_of h place) c
@@ -78,6 +80,12 @@ module _ (value : ℕ → Term) where
 pub argument_there : (h : List Change) (first count i : ℕ) → first + count ≤ size_of h → i < count → HasArgument h first count i (first + i)
 argument_there h first count i within lt = (omega (arith, within, lt), in_row (value_of h) first count i lt)
 
+pub take_all : (ts : List Term) (k : ℕ) → k ≡ length ts → take k ts ≡ ts
+take_all [] zero e = refl
+take_all [] (suc k) e = refl
+take_all (t ∷ ts) zero e = absurd (omega (arith, e))
+take_all (t ∷ ts) (suc k) e = ap (λ us. t ∷ us) (take_all ts k (omega (arith, e)))
+
 size_behind : (ts : List Term) (t : Term) → size_all (ts ++ t ∷ []) ≡ size_all ts + size t
 size_behind [] t = omega arith
 size_behind (u ∷ ts) t = omega (arith, size_behind ts t)
@@ -114,6 +122,17 @@ module _ (h : List Change) (t : Term) (c : Cell) (said : Says h t c) where
           let none : t ≡ Node f [] = s.0 ∙ ap (λ k. Node f (row_at h first k)) small in
           node_told g fit reach f [] [] tt n r e i ∙ sym (ap (λ t. admits g t r) none)
 
+  -- the end of the loop along last parts
+  module _ (small : HasNoLast c) (g : Grammar) (fit : Fits g) (asked closed : ℕ → Bool) (is_closed : IsClosed g closed) (keeps : (n : ℕ) → asked n ≡ true → closed n ≡ true) (led : AreLed g asked closed) (hd : Head) (is : hd ≡ cell_head c) where
+    alike : (n : ℕ) (r : Rule) → closed n ≡ true → In r (rules_of g n) → head_holds [] hd r ≡ admits g t r
+    alike n r e i = ap (λ h. head_holds [] h r) is ∙ small_alike small g fit closed n r e i
+
+    pub small_up : SomeRule g closed (head_holds [] hd) → SomeBelongs g asked t
+    small_up s = let b = from_rule g fit.few closed is_closed t (head_holds [] hd) alike s in led t b.0 b.1 b.2
+
+    pub small_down : SomeBelongs g asked t → SomeRule g closed (head_holds [] hd)
+    small_down s = a_rule g fit.few closed is_closed t (head_holds [] hd) alike (s.0, keeps s.0 s.1, s.2)
+
   -- the last part apart
   module _ (parts : Parts) (last : HasLast c parts) where
     apart : (t ≡ Node parts.name (row_at h parts.first parts.others ++ value_of h (parts.first + parts.others) ∷ [])) × (parts.first + parts.others < size_of h) × (cell_head c ≡ head.Node parts.name)
@@ -126,10 +145,12 @@ module _ (h : List Change) (t : Term) (c : Cell) (said : Says h t c) where
         by (cell.Int n) s l = absurd l
         by (cell.Atom a) s l = absurd l
         by (cell.Node f count first) s l =
-            let more : count ≡ suc parts.others = omega (arith, l.2) in
-            (s.0 ∙ ap (λ k. Node f (row_at h first k)) more ∙ ap (Node f) (last_in_row (value_of h) first parts.others)
-             ∙ ap (λ k. Node f (row_at h k parts.others ++ value_of h (k + parts.others) ∷ [])) (sym l.1) ∙ ap (λ k. Node k (row_at h parts.first parts.others ++ value_of h (parts.first + parts.others) ∷ [])) (sym l.0),
-             omega (arith, s.1, l.1, l.2), ap head.Node (sym l.0))
+            let more : count ≡ suc parts.others = omega (arith, l.2) in (
+              s.0 ∙ ap (λ k. Node f (row_at h first k)) more ∙ ap (Node f) (last_in_row (value_of h) first parts.others)
+                  ∙ ap (λ k. Node f (row_at h k parts.others ++ value_of h (k + parts.others) ∷ [])) (sym l.1) ∙ ap (λ k. Node k (row_at h parts.first parts.others ++ value_of h (parts.first + parts.others) ∷ [])) (sym l.0),
+              omega (arith, s.1, l.1, l.2),
+              ap head.Node (sym l.0),
+            )
 
     pub last_there : parts.first + parts.others < size_of h
     last_there = apart.1
@@ -158,3 +179,9 @@ module _ (h : List Change) (t : Term) (c : Cell) (said : Says h t c) where
 
       pub turn_up : SomeBelongs g next (value_of h (parts.first + parts.others)) → SomeBelongs g asked t
       turn_up s = let b = asks.up (value_of h (parts.first + parts.others)) s in led t b.0 b.1 (subst (λ t. belongs g t b.0 ≡ true) (sym apart.0) b.2)
+
+      -- a rule of the set holds of each compound
+      pub whole_up : SomeRule g closed is_whole → SomeBelongs g asked t
+      whole_up s =
+          let b = whole_some g closed parts.name (row_at h parts.first parts.others ++ value_of h (parts.first + parts.others) ∷ []) s in
+          led t b.0 b.1 (subst (λ t. belongs g t b.0 ≡ true) (sym apart.0) b.2)

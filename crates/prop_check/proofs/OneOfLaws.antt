@@ -59,6 +59,22 @@ module _ (g : Grammar) where
       leaf (rule.Atom a) e = e
       leaf (rule.Node f ns) e = e
 
+  -- a rule that holds of each compound
+  pub whole_some : (closed : ℕ → Bool) (f : ℕ) (ts : List Term) → SomeRule g closed is_whole → SomeBelongs g closed (Node f ts)
+  whole_some closed f ts s = let a = any_in is_whole (rules_of g s.0) s.2 in (s.0, s.1, by_rule (Node f ts) s.0 a.0 a.1 (ap (λ p. p a.0) (fold-Node _ (admits_step g) f ts) ∙ at a.0 a.2))
+    where
+      at : (r : Rule) → is_whole r ≡ true → admits_node g f (map (admits g) ts) r ≡ true
+      at (rule.Basic basic.Term) e = refl
+      at (rule.Basic basic.Struct) e = refl
+      at (rule.Basic basic.Gnd) e = absurd (true≢false (sym e))
+      at (rule.Basic basic.Int) e = absurd (true≢false (sym e))
+      at (rule.Basic basic.Nnegint) e = absurd (true≢false (sym e))
+      at (rule.Basic basic.Atm) e = absurd (true≢false (sym e))
+      at (rule.Int k) e = absurd (true≢false (sym e))
+      at (rule.Atom a) e = absurd (true≢false (sym e))
+      at (rule.Unit m) e = absurd (true≢false (sym e))
+      at (rule.Node h ns) e = absurd (true≢false (sym e))
+
   -- a name to which a term belongs is there
   member_named : (t : Term) (n : ℕ) → belongs g t n ≡ true → n < length g.rules
   member_named t n e = by (nat_lt n (length g.rules)) refl
@@ -323,3 +339,6 @@ none_stays g names t none n e = none_in n ∙ by (belongs g t n) refl
     by : (b : Bool) → belongs g t n ≡ b → false ≡ b
     by true q = none (n, e, q)
     by false q = refl
+
+pub no_names : (g : Grammar) (names : List ℕ) (t : Term) → names ≡ no_words → SomeBelongs g (bit_at names) t → false ≡ true
+no_names g names t e s = sym (ap (λ ws. bit_at ws s.0) e ∙ none_in s.0) ∙ s.1

@@ -32,13 +32,7 @@ fn any_holds_at(
 }
 
 /// Whether one of the disjuncts of the condition holds at a call, where it is a calls condition.
-pub fn calls_hold_at(
-    program: &Program,
-    heap: &Heap,
-    condition: u64,
-    first: u64,
-    count: u64,
-) -> bool
+pub fn calls_hold_at(program: &Program, heap: &Heap, condition: u64, first: u64, count: u64) -> bool
     requires grammar { IsGrammar program.now.grammar }
     requires row { first + count ≤ size_of heap.now.changes }
     ensures { result ≡ calls_hold program.now.grammar (row_at heap.now.changes first count) (kind_of program.now condition) }
@@ -55,13 +49,7 @@ pub fn calls_hold_at(
 }
 
 /// Whether the condition has a precondition, and that holds at a call.
-pub fn pre_holds_at(
-    program: &Program,
-    heap: &Heap,
-    condition: u64,
-    first: u64,
-    count: u64,
-) -> bool
+pub fn pre_holds_at(program: &Program, heap: &Heap, condition: u64, first: u64, count: u64) -> bool
     requires grammar { IsGrammar program.now.grammar }
     requires row { first + count ≤ size_of heap.now.changes }
     ensures { result ≡ pre_holds program.now.grammar (row_at heap.now.changes first count) (kind_of program.now condition) }
@@ -81,13 +69,7 @@ pub fn pre_holds_at(
 }
 
 /// Whether the postcondition of the condition holds at an exit, where it has one.
-pub fn post_holds_at(
-    program: &Program,
-    heap: &Heap,
-    condition: u64,
-    first: u64,
-    count: u64,
-) -> bool
+pub fn post_holds_at(program: &Program, heap: &Heap, condition: u64, first: u64, count: u64) -> bool
     requires grammar { IsGrammar program.now.grammar }
     requires row { first + count ≤ size_of heap.now.changes }
     ensures { result ≡ post_holds program.now.grammar (row_at heap.now.changes first count) (kind_of program.now condition) }

@@ -1,8 +1,8 @@
 // The names that rules speak of.
-ghost use Rattle.std.specs.Prelude.{◌≡◌, ◌<◌, ◌&&◌, ◌||◌, ℕ, nat_lt, true, option_copied};
+ghost use Rattle.std.specs.Prelude.{◌≡◌, ◌<◌, ◌&&◌, ◌||◌, ℕ, [], nat_lt, true, option_copied};
 ghost use Rattle.std.specs.List.{list_any};
 ghost use Rattle.prog_data.specs.Values.{bit_at};
-ghost use Rattle.prop_check.specs.Sets.{part_picked, ground_name, last_picked, picked, is_picked, finds_in, IsFrom, IsClosed};
+ghost use Rattle.prop_check.specs.Sets.{part_picked, ground_name, last_picked, picked, is_picked, finds, finds_in, IsFrom, IsClosed};
 ghost use Rattle.prop_check.specs.Chains.{sets_behind};
 ghost use Rattle.prop_check.specs.OneOf.{AreLed};
 
@@ -139,6 +139,15 @@ pub(crate) fn gather(
     }
 }
 
+/// Adds the names that a look finds in the rules of the names of a set, where no part is known.
+pub(crate) fn gather_first(grammar: &Grammar, from: &[u64; 8], look: Look, names: &mut [u64; 8])
+    ensures kept { (n : ℕ) → bit_at names.old n ≡ true → bit_at names.new n ≡ true }
+    ensures found { (n m : ℕ) → bit_at from.now n ≡ true → finds grammar.now look n m ≡ true → m < 512 → bit_at names.new m ≡ true }
+    ensures only { (m : ℕ) → bit_at names.new m ≡ true → IsFrom grammar.now [] look (bit_at from.now) (bit_at names.old) m }
+{
+    gather(grammar, from, look, None, names);
+}
+
 /// The names of a set, and those to which unit rules lead from them. Each round but the last adds a name.
 #[inline(never)]
 pub(crate) fn reach(grammar: &Grammar, asked: &[u64; 8]) -> [u64; 8]
@@ -149,7 +158,7 @@ pub(crate) fn reach(grammar: &Grammar, asked: &[u64; 8]) -> [u64; 8]
     let mut names = *asked;
     'rounds: loop {
         let mut next = names;
-        gather(grammar, &names, Look::Units, None, &mut next);
+        gather_first(grammar, &names, Look::Units, &mut next);
         if !has_more(&next, &names) {
             return names;
         }

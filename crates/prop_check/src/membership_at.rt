@@ -14,8 +14,7 @@ use term_heap::Heap;
 fn grammar_fits(grammar: &Grammar)
     requires { IsGrammar grammar.now }
     ensures { Fits grammar.now }
-{
-}
+{}
 
 /// Whether the term of a place belongs to the name. No variable is bound.
 pub fn belongs_at(grammar: &Grammar, heap: &Heap, name: u64, place: u64) -> bool

@@ -7,7 +7,7 @@ ghost use Rattle.prop_check.specs.Sets.{Fits, IsTold};
 ghost use Rattle.prop_check.specs.Chains.{sets_behind};
 
 use crate::chains::{Known, link};
-use crate::gathering::{Look, gather, reach};
+use crate::gathering::{Look, gather_first, reach};
 use crate::heads::{Head, head_of};
 use crate::sets::is_same;
 use crate::settling::settle;
@@ -37,7 +37,7 @@ fn narrowed(
     }
     let place = left - 1;
     let mut asked = [0; 8];
-    gather(grammar, reach, Look::Part(name, place), None, &mut asked);
+    gather_first(grammar, reach, Look::Part(name, place), &mut asked);
     narrow(grammar, &mut asked, &parts[place]);
     let known = link(&asked, behind);
     narrowed(

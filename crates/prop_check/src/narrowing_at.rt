@@ -10,11 +10,11 @@ ghost use Rattle.prop_check.specs.OneOf.{SomeBelongs, AsksLast};
 ghost use Rattle.prop_check.specs.Places.{row_at, compound_at};
 
 use crate::chains::{Known, link};
-use crate::gathering::{Look, gather, reach};
+use crate::gathering::{Look, gather, gather_first, reach};
 use crate::heads::Head;
 use crate::looks::{cell_head, look, parts_of};
 use crate::sets::{is_same, is_single};
-use crate::settling::{settle, some_holds};
+use crate::settling::{holds_alone, holds_of_each, settle};
 use prog_data::Grammar;
 use term_heap::{Cell, Heap};
 
@@ -43,10 +43,20 @@ fn narrowed_at(
     let _size = heap.len();
     let place = left - 1;
     let mut asked = [0; 8];
-    gather(grammar, reach, Look::Part(name, place as usize), None, &mut asked);
+    gather_first(grammar, reach, Look::Part(name, place as usize), &mut asked);
     narrow_at(grammar, heap, &mut asked, first + place);
     let known = link(&asked, behind);
-    narrowed_at(grammar, heap, reach, name, first, count, place, Some(&known), names);
+    narrowed_at(
+        grammar,
+        heap,
+        reach,
+        name,
+        first,
+        count,
+        place,
+        Some(&known),
+        names,
+    );
 }
 
 // Makes a set that of the names which the last part of a compound is asked for, where some of the parts before it are left to
@@ -75,10 +85,20 @@ fn ask_last(
     let _size = heap.len();
     let place = left - 1;
     let mut asked = [0; 8];
-    gather(grammar, reach, Look::Part(name, place as usize), None, &mut asked);
+    gather_first(grammar, reach, Look::Part(name, place as usize), &mut asked);
     narrow_at(grammar, heap, &mut asked, first + place);
     let known = link(&asked, behind);
-    ask_last(grammar, heap, reach, name, first, count, place, Some(&known), names);
+    ask_last(
+        grammar,
+        heap,
+        reach,
+        name,
+        first,
+        count,
+        place,
+        Some(&known),
+        names,
+    );
 }
 
 /// Whether the term of a place belongs to one name of a set at least.
@@ -93,14 +113,15 @@ pub(crate) fn one_belongs(grammar: &Grammar, heap: &Heap, names: &[u64; 8], plac
     let mut asked = *names;
     let mut here = place;
     'places: loop {
+        if is_same(&asked, &[0; 8]) {
+            return false;
+        }
         let closed = reach(grammar, &asked);
         let cell = look(heap, here);
-        let head = cell_head(&cell);
         match parts_of(&cell) {
-            None => return some_holds(grammar, &closed, &head, None),
+            None => return holds_alone(grammar, &closed, &cell_head(&cell)),
             Some(parts) => {
-                // What holds where the last part has no name holds of each compound.
-                if some_holds(grammar, &closed, &head, Some(&link(&[0; 8], None))) {
+                if holds_of_each(grammar, &closed, parts.name) {
                     return true;
                 }
                 ask_last(
@@ -161,7 +182,9 @@ fn narrow_all(grammar: &Grammar, heap: &Heap, names: &mut [u64; 8], place: u64)
     let cell = look(heap, place);
     match cell {
         Cell::Node(name, count, first) => {
-            narrowed_at(grammar, heap, &closed, name, first, count, count, None, names);
+            narrowed_at(
+                grammar, heap, &closed, name, first, count, count, None, names,
+            );
         }
         Cell::Free | Cell::Ref(_) | Cell::Int(_) | Cell::Atom(_) => {
             settle(grammar, &closed, &cell_head(&cell), None, names);

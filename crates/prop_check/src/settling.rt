@@ -1,14 +1,14 @@
 // The names to which a term belongs, by its outermost and the names to which its parts belong.
-ghost use Rattle.std.specs.Prelude.{◌≡◌, ◌≤◌, ◌&&◌, ℕ, true, length, option_copied};
+ghost use Rattle.std.specs.Prelude.{◌≡◌, ◌≤◌, ◌&&◌, ℕ, [], true, length, option_copied};
 ghost use Rattle.std.specs.List.{list_any};
 ghost use Rattle.prog_data.specs.Values.{bit_at};
 ghost use Rattle.prog_data.specs.Membership.{rules_of, leaves};
 ghost use Rattle.prog_data.specs.declared.grammars.Rule.TheVariants as rules;
 ghost use Rattle.prop_check.specs.Sets.{head_holds, passes_in, IsClosed};
 ghost use Rattle.prop_check.specs.Chains.{sets_behind};
-ghost use Rattle.prop_check.specs.OneOf.{SomeRule};
+ghost use Rattle.prop_check.specs.OneOf.{SomeRule, is_whole};
 
-use crate::chains::{Known, all_ground, all_have};
+use crate::chains::{Known, all_ground, all_have, link};
 use crate::heads::Head;
 use crate::membership::rules_of;
 use crate::sets::{has, is_same, put_where};
@@ -100,13 +100,8 @@ fn name_passes(
     has(reach, name) && some_passes(head, behind, found, rules_of(grammar, name))
 }
 
-/// Whether a rule of the names of the set, no unit rule, holds of a term.
-pub(crate) fn some_holds(
-    grammar: &Grammar,
-    names: &[u64; 8],
-    head: &Head,
-    behind: Option<&Known>,
-) -> bool
+// Whether a rule of the names of the set, no unit rule, holds of a term.
+fn some_holds(grammar: &Grammar, names: &[u64; 8], head: &Head, behind: Option<&Known>) -> bool
     ensures some { result ≡ true → SomeRule grammar.now (bit_at names.now) (head_holds (sets_behind (option_copied behind.entry)) head.now) }
     ensures none { SomeRule grammar.now (bit_at names.now) (head_holds (sets_behind (option_copied behind.entry)) head.now) → result ≡ true }
 {
@@ -116,6 +111,23 @@ pub(crate) fn some_holds(
         }
     }
     false
+}
+
+/// Whether a rule of the names of the set, no unit rule, holds of a term without parts.
+pub(crate) fn holds_alone(grammar: &Grammar, names: &[u64; 8], head: &Head) -> bool
+    ensures some { result ≡ true → SomeRule grammar.now (bit_at names.now) (head_holds [] head.now) }
+    ensures none { SomeRule grammar.now (bit_at names.now) (head_holds [] head.now) → result ≡ true }
+{
+    some_holds(grammar, names, head, None)
+}
+
+/// Whether a rule of the names of the set holds of each compound: it does where a part belongs to no name.
+pub(crate) fn holds_of_each(grammar: &Grammar, names: &[u64; 8], name: u64) -> bool
+    ensures some { result ≡ true → SomeRule grammar.now (bit_at names.now) is_whole }
+    ensures none { SomeRule grammar.now (bit_at names.now) is_whole → result ≡ true }
+{
+    let part = link(&[0; 8], None);
+    some_holds(grammar, names, &Head::Node(name), Some(&part))
 }
 
 // The names of the set of which a rule holds of a term, unit rules by the names that are found so far.
