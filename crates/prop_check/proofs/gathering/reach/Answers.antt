@@ -16,8 +16,8 @@ rounds-preserved c = record {
 
 pub rounds-smaller : goal.rounds-smaller
 rounds-smaller c =
-    let more = c.if-not-has_more.ensures.some c.if-not-has_more.false in
+    let more = c.has_more.ensures.some c.if-not-has_more.false in
     fewer_absent (bit_at c.rounds.names) (bit_at c.gather_first.new.names) c.gather_first.ensures.kept more.0 more.2 more.3 512 more.1
 
 pub returns-then-not-has_more-clause-closed : goal.returns-then-not-has_more-clause-closed
-returns-then-not-has_more-clause-closed c = same_closed c.args.grammar.now (bit_at c.rounds.names) (bit_at c.gather_first.new.names) (c.if-not-has_more.ensures.none c.if-not-has_more.true) c.gather_first.ensures.found
+returns-then-not-has_more-clause-closed c = same_closed c.args.grammar.now (bit_at c.rounds.names) (bit_at c.gather_first.new.names) (c.has_more.ensures.none c.if-not-has_more.true) c.gather_first.ensures.found

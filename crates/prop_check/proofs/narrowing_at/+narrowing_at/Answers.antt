@@ -106,7 +106,7 @@ ask_last-ask_last-requires t c =
 
 pub one_belongs-returns-then-is_same-clause-none : goal.one_belongs-returns-then-is_same-clause-none
 one_belongs-returns-then-is_same-clause-none t c = λ s.
-    no_names c.args.grammar.now c.places.asked (value_of c.args.heap.now.changes c.places.here) (c.if-is_same.ensures.0 c.if-is_same.true) (c.places.invariant.down s)
+    no_names c.args.grammar.now c.places.asked (value_of c.args.heap.now.changes c.places.here) (c.is_same.ensures.0 c.if-is_same.true) (c.places.invariant.down s)
 
 pub one_belongs-returns-in-None-clause-some : goal.one_belongs-returns-in-None-clause-some
 one_belongs-returns-in-None-clause-some t c = λ e.
@@ -124,7 +124,7 @@ pub one_belongs-returns-then-holds_of_each-clause-some : goal.one_belongs-return
 one_belongs-returns-then-holds_of_each-clause-some t c = λ e.
     c.places.invariant.up
     (whole_up c.args.heap.now.changes (value_of c.args.heap.now.changes c.places.here) c.look-cell.result c.look-cell.ensures c.in-Some.parts c.in-Some.ensures.some c.args.grammar.now (bit_at c.places.asked) (bit_at c.reach-closed.result)
-    c.reach-closed.ensures.led (c.if-holds_of_each.ensures.some c.if-holds_of_each.true))
+    c.reach-closed.ensures.led (c.holds_of_each.ensures.some c.if-holds_of_each.true))
 
 pub one_belongs-ask_last-requires : goal.one_belongs-ask_last-requires
 one_belongs-ask_last-requires t c =
@@ -160,7 +160,7 @@ one_belongs-places-preserved t c =
       there = last_there h (value_of h c.places.here) c.look-cell.result c.look-cell.ensures parts c.in-Some.ensures.some;
       down = λ s.
           turn_down h (value_of h c.places.here) c.look-cell.result c.look-cell.ensures parts c.in-Some.ensures.some c.args.grammar.now (bit_at c.places.asked) (bit_at c.reach-closed.result) (bit_at c.ask_last.new.names) c.reach-closed.ensures.asked
-          c.reach-closed.ensures.led c.ask_last.ensures (λ r. true≢false (sym (c.if-holds_of_each.ensures.none r) ∙ c.if-holds_of_each.false)) (c.places.invariant.down s);
+          c.reach-closed.ensures.led c.ask_last.ensures (λ r. true≢false (sym (c.holds_of_each.ensures.none r) ∙ c.if-holds_of_each.false)) (c.places.invariant.down s);
       up = λ s.
           c.places.invariant.up
           (turn_up h (value_of h c.places.here) c.look-cell.result c.look-cell.ensures parts c.in-Some.ensures.some c.args.grammar.now (bit_at c.places.asked) (bit_at c.reach-closed.result) (bit_at c.ask_last.new.names) c.reach-closed.ensures.asked
@@ -175,7 +175,7 @@ pub narrow_one-returns : goal.narrow_one-returns
 narrow_one-returns t c = ?
 
 pub narrow_at-narrow_one-requires : goal.narrow_at-narrow_one-requires
-narrow_at-narrow_one-requires t c = (omega (arith, c.decreases), (c.requires.fits, (c.requires.within, c.if-is_single.ensures c.if-is_single.true)))
+narrow_at-narrow_one-requires t c = (omega (arith, c.decreases), (c.requires.fits, (c.requires.within, c.is_single.ensures c.if-is_single.true)))
 
 pub narrow_at-narrow_all-requires : goal.narrow_at-narrow_all-requires
 narrow_at-narrow_all-requires t c = (omega (arith, c.decreases), (c.requires.fits, c.requires.within))

@@ -10,11 +10,11 @@ loop-name-init c = λ n lt q. absurd (omega (arith, lt))
 
 pub loop-name-preserved : goal.loop-name-preserved
 loop-name-preserved c =
-    none_here c.args.grammar.now (bit_at c.args.names.now) (sets_behind (option_copied c.args.behind)) c.args.head.now c.loop-name.name c.if-name_passes.result c.if-name_passes.ensures c.if-name_passes.false c.loop-name.invariant
+    none_here c.args.grammar.now (bit_at c.args.names.now) (sets_behind (option_copied c.args.behind)) c.args.head.now c.loop-name.name c.name_passes.result c.name_passes.ensures c.if-name_passes.false c.loop-name.invariant
 
 pub returns-then-name_passes-clause-some : goal.returns-then-name_passes-clause-some
 returns-then-name_passes-clause-some c =
-    λ e. holds_here c.args.grammar.now (bit_at c.args.names.now) (sets_behind (option_copied c.args.behind)) c.args.head.now c.loop-name.name c.if-name_passes.result c.if-name_passes.ensures c.if-name_passes.true
+    λ e. holds_here c.args.grammar.now (bit_at c.args.names.now) (sets_behind (option_copied c.args.behind)) c.args.head.now c.loop-name.name c.name_passes.result c.name_passes.ensures c.if-name_passes.true
 
 pub returns-clause-none : goal.returns-clause-none
 returns-clause-none c =
