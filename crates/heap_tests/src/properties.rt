@@ -92,7 +92,9 @@ fn constants(alloc: Global, heap: &mut Heap) -> Result<[u64; 8], NoMemory> {
 // The constants, then [7|T], where T is bound to [7] (8); [7|X] (9); [a] (10); f([7],-7) (11), f([a],-7) (12), f([a],a) (13),
 // f(7,[7]) (14) and f(7,[a]) (15).
 fn places(alloc: Global, heap: &mut Heap) -> Result<[u64; 16], NoMemory> {
-    let [free, first, second, seven, negative, atom, nil, empty] = constants(alloc, heap)?;
+    let made = constants(alloc, heap)?;
+    let (free, second, seven) = (made[0], made[2], made[3]);
+    let (negative, atom, nil) = (made[4], made[5], made[6]);
     let tail = heap.fresh(1)?;
     let long = pair(alloc, heap, CELL, second, tail)?;
     let short = pair(alloc, heap, CELL, seven, nil)?;
@@ -105,7 +107,8 @@ fn places(alloc: Global, heap: &mut Heap) -> Result<[u64; 16], NoMemory> {
     let d = pair(alloc, heap, 60, seven, short)?;
     let e = pair(alloc, heap, 60, seven, atoms)?;
     Ok([
-        free, first, second, seven, negative, atom, nil, empty, long, open, atoms, a, b, c, d, e,
+        free, made[1], second, seven, negative, atom, nil, made[7], long, open, atoms, a, b, c, d,
+        e,
     ])
 }
 

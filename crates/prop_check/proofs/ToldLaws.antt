@@ -112,7 +112,7 @@ module _ (g : Grammar) where
 
     module _ (reach : ℕ → Bool) (closed : IsClosed g reach) (result : ℕ → Bool) where
       -- what is settled is what belongs, where leaves hold as they admit
-      settled : (holds : Rule → Bool) (t : Term) → ((n : ℕ) (x : Rule) → reach n ≡ true → In x (rules_of g n) → holds x ≡ admits g t x) →
+      pub settled : (holds : Rule → Bool) (t : Term) → ((n : ℕ) (x : Rule) → reach n ≡ true → In x (rules_of g n) → holds x ≡ admits g t x) →
           ((n : ℕ) → result n ≡ (reach n && holds_within g holds (length g.rules) n)) → (n : ℕ) → result n ≡ (reach n && belongs g t n)
       settled holds t alike is n = is n ∙ by (reach n) refl
         where

@@ -1,17 +1,18 @@
-use Rattle.std.proofs.Common.{◌≡◌, suc, ◌+◌, ◌-◌, ◌<◌, ◌≤◌, ℕ, [], length, ◌∷◌, true, take, drop, refl, sym, ap, ◌∙◌, subst, arith, true≢false, add-one}
+use Rattle.std.proofs.Common.{◌≡◌, suc, ◌+◌, ◌-◌, ◌<◌, ◌≤◌, ℕ, [], length, ◌∷◌, true, ◌&&◌, take, drop, refl, sym, ap, ◌∙◌, subst, arith, true≢false, add-one}
 use Rattle.std.specs.Prelude.{option_copied}
 use Rattle.term_core.specs.Sizes.{size, size_all}
 use Rattle.term_core.proofs.Sizes.{size_pos}
 use Rattle.prog_data.specs.Values.{bit_at}
+use Rattle.prog_data.specs.Membership.{belongs}
 use Rattle.term_heap.specs.Changes.{value_of}
-use Rattle.prop_check.specs.Sets.{AreTold, IsTold}
+use Rattle.prop_check.specs.Sets.{AreTold, IsTold, head_holds}
 use Rattle.prop_check.specs.Chains.{sets_behind}
 use Rattle.prop_check.specs.OneOf.{SomeBelongs}
-use Rattle.prop_check.specs.Places.{row_at, compound_at}
+use Rattle.prop_check.specs.Places.{row_at, compound_at, HasNoLast}
 use Rattle.prop_check.proofs.SetLaws.{beyond}
-use Rattle.prop_check.proofs.ToldLaws.{all_looked_at, none_looked_at, part_size, one_more_told}
+use Rattle.prop_check.proofs.ToldLaws.{all_looked_at, none_looked_at, part_size, one_more_told, settled}
 use Rattle.prop_check.proofs.OneOfLaws.{asks_last, single_stays, none_stays, no_names}
-use Rattle.prop_check.proofs.CellLaws.{take_all, at_row, row_length, small_up, small_down, last_there, others_there, sizes_apart, turn_up, turn_down, whole_up, is_compound_at, row_there, row_smaller}
+use Rattle.prop_check.proofs.CellLaws.{take_all, at_row, row_length, small_alike, small_up, small_down, last_there, others_there, sizes_apart, turn_up, turn_down, whole_up, is_compound_at, row_there, row_smaller}
 use Rattle.prop_check.proofs.narrowing_at.+narrowing_at.Goals as goal
 
 pub narrowed_at-returns-then-left-eq0 : goal.narrowed_at-returns-then-left-eq0
@@ -111,19 +112,19 @@ one_belongs-returns-then-is_same-clause-none t c = λ s.
 pub one_belongs-returns-in-None-clause-some : goal.one_belongs-returns-in-None-clause-some
 one_belongs-returns-in-None-clause-some t c = λ e.
     c.places.invariant.up
-    (small_up c.args.heap.now.changes (value_of c.args.heap.now.changes c.places.here) c.look-cell.result c.look-cell.ensures c.in-None.ensures.value c.args.grammar.now c.requires.fits (bit_at c.places.asked) (bit_at c.reach-closed.result)
+    (small_up c.args.heap.now.changes (value_of c.args.heap.now.changes c.places.here) c.look-cell.result c.look-cell.ensures c.in-None.ensures c.args.grammar.now c.requires.fits (bit_at c.places.asked) (bit_at c.reach-closed.result)
     c.reach-closed.ensures.closed c.reach-closed.ensures.asked c.reach-closed.ensures.led c.cell_head.result c.cell_head.ensures (c.holds_alone.ensures.some e))
 
 pub one_belongs-returns-in-None-clause-none : goal.one_belongs-returns-in-None-clause-none
 one_belongs-returns-in-None-clause-none t c = λ s.
     c.holds_alone.ensures.none
-    (small_down c.args.heap.now.changes (value_of c.args.heap.now.changes c.places.here) c.look-cell.result c.look-cell.ensures c.in-None.ensures.value c.args.grammar.now c.requires.fits (bit_at c.places.asked) (bit_at c.reach-closed.result)
+    (small_down c.args.heap.now.changes (value_of c.args.heap.now.changes c.places.here) c.look-cell.result c.look-cell.ensures c.in-None.ensures c.args.grammar.now c.requires.fits (bit_at c.places.asked) (bit_at c.reach-closed.result)
     c.reach-closed.ensures.closed c.reach-closed.ensures.asked c.reach-closed.ensures.led c.cell_head.result c.cell_head.ensures (c.places.invariant.down s))
 
 pub one_belongs-returns-then-holds_of_each-clause-some : goal.one_belongs-returns-then-holds_of_each-clause-some
 one_belongs-returns-then-holds_of_each-clause-some t c = λ e.
     c.places.invariant.up
-    (whole_up c.args.heap.now.changes (value_of c.args.heap.now.changes c.places.here) c.look-cell.result c.look-cell.ensures c.in-Some.parts c.in-Some.ensures.some c.args.grammar.now (bit_at c.places.asked) (bit_at c.reach-closed.result)
+    (whole_up c.args.heap.now.changes (value_of c.args.heap.now.changes c.places.here) c.look-cell.result c.look-cell.ensures c.in-Some.parts c.in-Some.ensures c.args.grammar.now (bit_at c.places.asked) (bit_at c.reach-closed.result)
     c.reach-closed.ensures.led (c.holds_of_each.ensures.some c.if-holds_of_each.true))
 
 pub one_belongs-ask_last-requires : goal.one_belongs-ask_last-requires
@@ -133,8 +134,8 @@ one_belongs-ask_last-requires t c =
     let row = row_at h parts.first parts.others in
     let many : length row ≡ parts.others = row_length (value_of h) parts.first parts.others in
     let all : size_all (take parts.others row) ≡ size_all row = ap size_all (take_all row parts.others (sym many)) in
-    let apart = sizes_apart h (value_of h c.places.here) c.look-cell.result c.look-cell.ensures parts c.in-Some.ensures.some in
-    let within = others_there h (value_of h c.places.here) c.look-cell.result c.look-cell.ensures parts c.in-Some.ensures.some in (
+    let apart = sizes_apart h (value_of h c.places.here) c.look-cell.result c.look-cell.ensures parts c.in-Some.ensures in
+    let within = others_there h (value_of h c.places.here) c.look-cell.result c.look-cell.ensures parts c.in-Some.ensures in (
       omega (arith, all, apart, size_pos (value_of h (parts.first + parts.others)), c.places.invariant.small, c.decreases),
       (none_looked_at c.args.grammar.now (bit_at c.reach-closed.result) (compound_at h parts.name parts.first parts.others) parts.name row parts.others c.requires.fits c.reach-closed.ensures.closed refl (sym many), within),
     )
@@ -142,37 +143,34 @@ one_belongs-ask_last-requires t c =
 pub one_belongs-overflow_add-here : goal.one_belongs-overflow_add-here
 one_belongs-overflow_add-here t c =
     let h = c.args.heap.now.changes in
-    let there = last_there h (value_of h c.places.here) c.look-cell.result c.look-cell.ensures c.in-Some.parts c.in-Some.ensures.some in
+    let there = last_there h (value_of h c.places.here) c.look-cell.result c.look-cell.ensures c.in-Some.parts c.in-Some.ensures in
     omega (arith, there, c.len-size.ensures.len)
 
 pub one_belongs-places-smaller : goal.one_belongs-places-smaller
 one_belongs-places-smaller t c =
     let h = c.args.heap.now.changes in
-    let apart = sizes_apart h (value_of h c.places.here) c.look-cell.result c.look-cell.ensures c.in-Some.parts c.in-Some.ensures.some in
+    let apart = sizes_apart h (value_of h c.places.here) c.look-cell.result c.look-cell.ensures c.in-Some.parts c.in-Some.ensures in
     omega (arith, apart)
 
 pub one_belongs-places-preserved : goal.one_belongs-places-preserved
 one_belongs-places-preserved t c =
     let h = c.args.heap.now.changes in
     let parts = c.in-Some.parts in
-    let apart = sizes_apart h (value_of h c.places.here) c.look-cell.result c.look-cell.ensures parts c.in-Some.ensures.some in
+    let apart = sizes_apart h (value_of h c.places.here) c.look-cell.result c.look-cell.ensures parts c.in-Some.ensures in
     record {
-      there = last_there h (value_of h c.places.here) c.look-cell.result c.look-cell.ensures parts c.in-Some.ensures.some;
+      there = last_there h (value_of h c.places.here) c.look-cell.result c.look-cell.ensures parts c.in-Some.ensures;
       down = λ s.
-          turn_down h (value_of h c.places.here) c.look-cell.result c.look-cell.ensures parts c.in-Some.ensures.some c.args.grammar.now (bit_at c.places.asked) (bit_at c.reach-closed.result) (bit_at c.ask_last.new.names) c.reach-closed.ensures.asked
+          turn_down h (value_of h c.places.here) c.look-cell.result c.look-cell.ensures parts c.in-Some.ensures c.args.grammar.now (bit_at c.places.asked) (bit_at c.reach-closed.result) (bit_at c.ask_last.new.names) c.reach-closed.ensures.asked
           c.reach-closed.ensures.led c.ask_last.ensures (λ r. true≢false (sym (c.holds_of_each.ensures.none r) ∙ c.if-holds_of_each.false)) (c.places.invariant.down s);
       up = λ s.
           c.places.invariant.up
-          (turn_up h (value_of h c.places.here) c.look-cell.result c.look-cell.ensures parts c.in-Some.ensures.some c.args.grammar.now (bit_at c.places.asked) (bit_at c.reach-closed.result) (bit_at c.ask_last.new.names) c.reach-closed.ensures.asked
+          (turn_up h (value_of h c.places.here) c.look-cell.result c.look-cell.ensures parts c.in-Some.ensures c.args.grammar.now (bit_at c.places.asked) (bit_at c.reach-closed.result) (bit_at c.ask_last.new.names) c.reach-closed.ensures.asked
           c.reach-closed.ensures.led c.ask_last.ensures s);
       small = omega (arith, apart, c.places.invariant.small);
     }
 
 pub narrow_one-one_belongs-requires : goal.narrow_one-one_belongs-requires
 narrow_one-one_belongs-requires t c = (omega (arith, c.decreases), (c.requires.fits, c.requires.within))
-
-pub narrow_one-returns : goal.narrow_one-returns
-narrow_one-returns t c = ?
 
 pub narrow_at-narrow_one-requires : goal.narrow_at-narrow_one-requires
 narrow_at-narrow_one-requires t c = (omega (arith, c.decreases), (c.requires.fits, (c.requires.within, c.is_single.ensures c.if-is_single.true)))
@@ -198,4 +196,30 @@ narrow_all-narrowed_at-requires t c =
     )
 
 pub narrow_all-returns-in-Node : goal.narrow_all-returns-in-Node
-narrow_all-returns-in-Node t c = ?
+narrow_all-returns-in-Node t c = λ n e.
+    let h = c.args.heap.now.changes in
+    let compound = compound_at h c.in-Node.name c.in-Node.first c.in-Node.count in
+    c.narrowed_at.ensures n ∙ ap (λ b. b && belongs c.args.grammar.now compound n) (c.reach-closed.ensures.asked n e)
+    ∙ ap (λ t. belongs c.args.grammar.now t n) (sym (is_compound_at h (value_of h c.args.place) c.look-cell.result c.look-cell.ensures c.in-Node.name c.in-Node.count c.in-Node.first c.in-Node.is))
+
+pub narrow_all-returns-in-Free : goal.narrow_all-returns-in-Free
+narrow_all-returns-in-Free t c = λ n e.
+    let h = c.args.heap.now.changes in
+    let g = c.args.grammar.now in
+    let term = value_of h c.args.place in
+    let closed = bit_at c.reach-closed.result in
+    settled g c.requires.fits closed c.reach-closed.ensures.closed (bit_at c.settle.new.names) (head_holds [] c.cell_head.result) term
+    (λ m r q i. ap (λ d. head_holds [] d r) c.cell_head.ensures ∙ small_alike h term c.look-cell.result c.look-cell.ensures (subst HasNoLast (sym c.in-Free.is) tt) g c.requires.fits closed m r q i) c.settle.ensures n
+    ∙ ap (λ b. b && belongs g term n) (c.reach-closed.ensures.asked n e)
+
+pub narrowed_at-overflow_add-first : goal.narrowed_at-overflow_add-first
+narrowed_at-overflow_add-first t c =
+    let h = c.args.heap.now.changes in
+    let many : length (row_at h c.args.first c.args.count) ≡ c.args.count = row_length (value_of h) c.args.first c.args.count in
+    omega (arith, many, c.requires.told.within, c.requires.within, c.len-size.ensures.len, c.if-left-eq0.false)
+
+pub ask_last-overflow_add-first : goal.ask_last-overflow_add-first
+ask_last-overflow_add-first t c =
+    let h = c.args.heap.now.changes in
+    let many : length (row_at h c.args.first c.args.count) ≡ c.args.count = row_length (value_of h) c.args.first c.args.count in
+    omega (arith, many, c.requires.told.within, c.requires.within, c.len-size.ensures.len, c.if-left-eq0.false)
