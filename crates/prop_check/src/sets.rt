@@ -49,6 +49,9 @@ pub(crate) fn has_more(next: &[u64; 8], names: &[u64; 8]) -> bool
     ensures some { result ≡ true → (n : ℕ) × (n < 512) × (bit_at next.now n ≡ true) × (bit_at names.now n ≡ false) }
     ensures none { result ≡ false → (n : ℕ) → bit_at next.now n ≡ true → bit_at names.now n ≡ true }
 {
+    if is_same(next, names) {
+        return false;
+    }
     for name in 0..512u64 {
         if is_new(next, names, name) {
             return true;
