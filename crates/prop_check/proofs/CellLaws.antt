@@ -1,6 +1,6 @@
 -- What cells say of the terms of their places, and the parts of a compound in cells.
 use Rattle.std.proofs.Common.{◌≡◌, ◌⊎◌, inl, inr, ◌<◌, ◌≤◌, ℕ, zero, suc, ◌+◌, ◌-◌, Bool, true, false, List, [], ◌∷◌, ◌++◌, length, map, take, get_or, slice_get, refl, sym, ap, ◌∙◌, subst, arith, true≢false}
-use Rattle.std.specs.Prelude.{Some, None}
+use Rattle.std.specs.Prelude.{Some, None, ℤ}
 use Rattle.term_core.specs.declared.terms.Term.{Term, out-Term, Var, Int, Atom, Node}
 use Rattle.term_core.specs.declared.terms.Term.TheVariants.{outs-Var, outs-Int, outs-Atom, outs-Node}
 use Rattle.term_core.specs.Terms.{is_variable}
@@ -35,6 +35,17 @@ says h place root c made lt end same is =
     by (cell.Int n) end names e = e
     by (cell.Atom a) end names e = e
     by (cell.Node f count first) end names e = (e, names)
+
+-- one that is no compound
+pub no_parts : (c : Cell) → (c ≡ cell.Free) ⊎ (((x : ℕ) × (c ≡ cell.Ref x)) ⊎ (((x : ℤ) × (c ≡ cell.Int x)) ⊎ ((x : ℕ) × (c ≡ cell.Atom x)))) → HasNoLast c
+no_parts cell.Free s = tt
+no_parts (cell.Ref to) s = tt
+no_parts (cell.Int n) s = tt
+no_parts (cell.Atom a) s = tt
+no_parts (cell.Node f count first) (inl e) = absurd cc
+no_parts (cell.Node f count first) (inr (inl e)) = let q = e.1 in absurd cc
+no_parts (cell.Node f count first) (inr (inr (inl e))) = let q = e.1 in absurd cc
+no_parts (cell.Node f count first) (inr (inr (inr e))) = let q = e.1 in absurd cc
 
 -- whether it is a variable
 
@@ -168,6 +179,12 @@ module _ (h : List Change) (t : Term) (c : Cell) (said : Says h t c) where
         let whole : size t ≡ size_all (row ++ last ∷ []) + 1 = ap size apart.0 ∙ size_of_compound parts.name (row ++ last ∷ []) in
         omega (arith, whole, size_behind row last)
 
+    -- a rule of the set holds of each compound
+    pub whole_up : (g : Grammar) (asked closed : ℕ → Bool) → AreLed g asked closed → SomeRule g closed is_whole → SomeBelongs g asked t
+    whole_up g asked closed led s =
+        let b = whole_some g closed parts.name (row_at h parts.first parts.others ++ value_of h (parts.first + parts.others) ∷ []) s in
+        led t b.0 b.1 (subst (λ t. belongs g t b.0 ≡ true) (sym apart.0) b.2)
+
     -- one turn of the loop along last parts
     module _ (g : Grammar) (asked closed next : ℕ → Bool) (keeps : (n : ℕ) → asked n ≡ true → closed n ≡ true) (led : AreLed g asked closed) (asks : AsksLast g closed parts.name (row_at h parts.first parts.others) next) where
       pub turn_down : (SomeRule g closed is_whole → ⊥) → SomeBelongs g asked t → SomeBelongs g next (value_of h (parts.first + parts.others))
@@ -179,9 +196,3 @@ module _ (h : List Change) (t : Term) (c : Cell) (said : Says h t c) where
 
       pub turn_up : SomeBelongs g next (value_of h (parts.first + parts.others)) → SomeBelongs g asked t
       turn_up s = let b = asks.up (value_of h (parts.first + parts.others)) s in led t b.0 b.1 (subst (λ t. belongs g t b.0 ≡ true) (sym apart.0) b.2)
-
-      -- a rule of the set holds of each compound
-      pub whole_up : SomeRule g closed is_whole → SomeBelongs g asked t
-      whole_up s =
-          let b = whole_some g closed parts.name (row_at h parts.first parts.others ++ value_of h (parts.first + parts.others) ∷ []) s in
-          led t b.0 b.1 (subst (λ t. belongs g t b.0 ≡ true) (sym apart.0) b.2)

@@ -192,6 +192,9 @@ gathered_all test k ws had absent n = had n ∙ at (nat_lt n k) refl
     at true e = refl
     at false e = let le : k ≤ n = grind (arith, nat_tests) in sym (absent n le)
 
+pub ended : (test : ℕ → Bool) (k : ℕ) (ws : List ℕ) (n : ℕ) → n < k → Gathered test k ws → bit_at ws n ≡ test n
+ended test k ws n lt had = let below : nat_lt n k ≡ true = grind (arith, nat_tests) in had n ∙ ap (λ b. b && test n) below
+
 -- no rule of a name that is not there holds
 pub absent_name : (g : Grammar) (reach : ℕ → Bool) (holds : Rule → Bool) (n : ℕ) → length g.rules ≤ n → (reach n && list_any holds (rules_of g n)) ≡ false
 absent_name g reach holds n le = ap (λ rs. reach n && list_any holds rs) (past [] g.rules n le) ∙ and-false (reach n)

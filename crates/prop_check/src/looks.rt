@@ -65,6 +65,9 @@ pub(crate) fn is_variable_at(heap: &Heap, place: u64) -> bool
 {
     match look(heap, place) {
         Cell::Free => true,
-        Cell::Ref(_) | Cell::Int(_) | Cell::Atom(_) | Cell::Node(_, _, _) => false,
+        Cell::Ref(_) => false,
+        Cell::Int(_) => false,
+        Cell::Atom(_) => false,
+        Cell::Node(_, _, _) => false,
     }
 }

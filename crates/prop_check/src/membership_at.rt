@@ -25,5 +25,5 @@ pub fn belongs_at(grammar: &Grammar, heap: &Heap, name: u64, place: u64) -> bool
     grammar_fits(grammar);
     let mut names = [0; 8];
     put(&mut names, name);
-    one_belongs(grammar, heap, &names, place)
+    one_belongs(grammar, heap, &names, place, true)
 }

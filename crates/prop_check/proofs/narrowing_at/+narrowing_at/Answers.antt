@@ -8,11 +8,11 @@ use Rattle.term_heap.specs.Changes.{value_of}
 use Rattle.prop_check.specs.Sets.{AreTold, IsTold, head_holds}
 use Rattle.prop_check.specs.Chains.{sets_behind}
 use Rattle.prop_check.specs.OneOf.{SomeBelongs}
-use Rattle.prop_check.specs.Places.{row_at, compound_at, HasNoLast}
-use Rattle.prop_check.proofs.SetLaws.{beyond}
+use Rattle.prop_check.specs.Places.{row_at, compound_at}
+use Rattle.prop_check.proofs.SetLaws.{beyond, named, gathered_none, gathered_more, ended}
 use Rattle.prop_check.proofs.ToldLaws.{all_looked_at, none_looked_at, part_size, one_more_told, settled}
-use Rattle.prop_check.proofs.OneOfLaws.{asks_last, single_stays, none_stays, no_names}
-use Rattle.prop_check.proofs.CellLaws.{take_all, at_row, row_length, small_alike, small_up, small_down, last_there, others_there, sizes_apart, turn_up, turn_down, whole_up, is_compound_at, row_there, row_smaller}
+use Rattle.prop_check.proofs.OneOfLaws.{asks_last, single_belongs, no_names}
+use Rattle.prop_check.proofs.CellLaws.{take_all, at_row, row_length, no_parts, small_alike, small_up, small_down, last_there, others_there, sizes_apart, turn_up, turn_down, whole_up, is_compound_at, row_there, row_smaller}
 use Rattle.prop_check.proofs.narrowing_at.+narrowing_at.Goals as goal
 
 pub narrowed_at-returns-then-left-eq0 : goal.narrowed_at-returns-then-left-eq0
@@ -209,7 +209,7 @@ narrow_all-returns-in-Free t c = λ n e.
     let term = value_of h c.args.place in
     let closed = bit_at c.reach-closed.result in
     settled g c.requires.fits closed c.reach-closed.ensures.closed (bit_at c.settle.new.names) (head_holds [] c.cell_head.result) term
-    (λ m r q i. ap (λ d. head_holds [] d r) c.cell_head.ensures ∙ small_alike h term c.look-cell.result c.look-cell.ensures (subst HasNoLast (sym c.in-Free.is) tt) g c.requires.fits closed m r q i) c.settle.ensures n
+    (λ m r q i. ap (λ d. head_holds [] d r) c.cell_head.ensures ∙ small_alike h term c.look-cell.result c.look-cell.ensures (no_parts c.look-cell.result c.in-Free.is) g c.requires.fits closed m r q i) c.settle.ensures n
     ∙ ap (λ b. b && belongs g term n) (c.reach-closed.ensures.asked n e)
 
 pub narrowed_at-overflow_add-first : goal.narrowed_at-overflow_add-first
@@ -223,3 +223,32 @@ ask_last-overflow_add-first t c =
     let h = c.args.heap.now.changes in
     let many : length (row_at h c.args.first c.args.count) ≡ c.args.count = row_length (value_of h) c.args.first c.args.count in
     omega (arith, many, c.requires.told.within, c.requires.within, c.len-size.ensures.len, c.if-left-eq0.false)
+
+pub is_kept-one_belongs-requires : goal.is_kept-one_belongs-requires
+is_kept-one_belongs-requires t c = (omega (arith, c.decreases), (c.requires.fits, c.requires.within))
+
+pub is_kept-returns : goal.is_kept-returns
+is_kept-returns t c =
+    let belong = belongs c.args.grammar.now (value_of c.args.heap.now.changes c.args.place) c.args.name in
+    single_belongs c.args.grammar.now c.requires.fits (value_of c.args.heap.now.changes c.args.place) c.args.name c.put.new.names c.one_belongs.result c.put.ensures c.one_belongs.ensures.some c.one_belongs.ensures.none
+    ∙ ap (λ b. b && belong) (sym c.if-not-has.false ∙ c.has.ensures)
+
+pub narrow_each-is_kept-wanted-requires : goal.narrow_each-is_kept-wanted-requires
+narrow_each-is_kept-wanted-requires t c = (omega (arith, c.decreases), (c.requires.fits, c.requires.within))
+
+pub narrow_at-narrow_each-requires : goal.narrow_at-narrow_each-requires
+narrow_at-narrow_each-requires t c = (omega (arith, c.decreases), (c.requires.fits, c.requires.within))
+
+pub narrow_each-loop-name-init : goal.narrow_each-loop-name-init
+narrow_each-loop-name-init t c = gathered_none _
+
+pub narrow_each-loop-name-preserved : goal.narrow_each-loop-name-preserved
+narrow_each-loop-name-preserved t c =
+    gathered_more (λ n. bit_at c.args.names.now n && belongs c.args.grammar.now (value_of c.args.heap.now.changes c.args.place) n) c.loop-name.name c.is_kept-wanted.result c.loop-name.kept c.put_where.new.names c.loop-name.invariant c.is_kept-wanted.ensures
+    c.loop-name-test.true c.put_where.ensures
+
+pub narrow_each-returns : goal.narrow_each-returns
+narrow_each-returns t c = λ n e.
+    let belong = belongs c.args.grammar.now (value_of c.args.heap.now.changes c.args.place) in
+    let lt = named c.args.names.now n c.told-names e in
+    ended (λ n. bit_at c.args.names.now n && belong n) c.loop-name.name c.loop-name.kept n (omega (arith, lt, c.loop-name-test.false)) c.loop-name.invariant ∙ ap (λ b. b && belong n) e
