@@ -1,1 +1,2 @@
+mod ListRange
 mod Premises

@@ -114,6 +114,7 @@ fn some_holds(grammar: &Grammar, names: &[u64; 8], head: &Head, behind: Option<&
 }
 
 /// Whether a rule of the names of the set, no unit rule, holds of a term without parts.
+#[inline(never)]
 pub(crate) fn holds_alone(grammar: &Grammar, names: &[u64; 8], head: &Head) -> bool
     ensures some { result ≡ true → SomeRule grammar.now (bit_at names.now) (head_holds [] head.now) }
     ensures none { SomeRule grammar.now (bit_at names.now) (head_holds [] head.now) → result ≡ true }
@@ -122,6 +123,7 @@ pub(crate) fn holds_alone(grammar: &Grammar, names: &[u64; 8], head: &Head) -> b
 }
 
 /// Whether a rule of the names of the set holds of each compound: it does where a part belongs to no name.
+#[inline(never)]
 pub(crate) fn holds_of_each(grammar: &Grammar, names: &[u64; 8], name: u64) -> bool
     ensures some { result ≡ true → SomeRule grammar.now (bit_at names.now) is_whole }
     ensures none { SomeRule grammar.now (bit_at names.now) is_whole → result ≡ true }
