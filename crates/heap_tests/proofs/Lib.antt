@@ -1,2 +1,1 @@
-mod ListRange
 mod Premises

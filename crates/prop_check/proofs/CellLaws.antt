@@ -1,10 +1,10 @@
 -- What cells say of the terms of their places, and the parts of a compound in cells.
-use Rattle.std.proofs.Common.{◌≡◌, ◌⊎◌, inl, inr, ◌<◌, ◌≤◌, ℕ, zero, suc, ◌+◌, ◌-◌, Bool, true, false, List, [], ◌∷◌, ◌++◌, length, map, take, get_or, slice_get, refl, sym, ap, ◌∙◌, subst, arith, true≢false}
+use Rattle.std.proofs.Common.{◌≡◌, ◌⊎◌, inl, inr, ◌<◌, ◌≤◌, ℕ, zero, suc, ◌+◌, Bool, true, false, List, [], ◌∷◌, ◌++◌, length, map, take, get_or, slice_get, refl, sym, ap, ◌∙◌, subst, arith}
 use Rattle.std.specs.Prelude.{Some, None, ℤ}
-use Rattle.term_core.specs.declared.terms.Term.{Term, out-Term, Var, Int, Atom, Node}
+use Rattle.term_core.specs.declared.terms.Term.{Term, out-Term, Node}
 use Rattle.term_core.specs.declared.terms.Term.TheVariants.{outs-Var, outs-Int, outs-Atom, outs-Node}
 use Rattle.term_core.specs.Terms.{is_variable}
-use Rattle.term_core.specs.Sizes.{size, size_step, size_all, total}
+use Rattle.term_core.specs.Sizes.{size, size_step, size_all}
 use Rattle.term_core.proofs.TermFolds.{fold-Var, fold-Int, fold-Atom, fold-Node}
 use Rattle.term_heap.specs.declared.cells.Cell.{Cell}
 use Rattle.term_heap.specs.declared.cells.Cell.TheVariants as cell
@@ -17,9 +17,9 @@ use Rattle.prog_data.proofs.Leaves.{In}
 use Rattle.prop_check.specs.declared.looks.Parts.{Parts}
 use Rattle.prop_check.specs.declared.heads.Head.{Head}
 use Rattle.prop_check.specs.declared.heads.Head.TheVariants as head
-use Rattle.prop_check.specs.Heads.{head_of, cell_head}
+use Rattle.prop_check.specs.Heads.{cell_head}
 use Rattle.prop_check.specs.Places.{row_at, compound_at, HasArgument, Says, HasLast, HasNoLast}
-use Rattle.prop_check.specs.Sets.{Fits, IsClosed, IsTold, head_holds}
+use Rattle.prop_check.specs.Sets.{Fits, IsClosed, head_holds}
 use Rattle.prop_check.specs.OneOf.{SomeBelongs, SomeRule, AreLed, is_whole, AsksLast}
 use Rattle.prop_check.proofs.ToldLaws.{node_told}
 use Rattle.prop_check.proofs.OneOfLaws.{from_rule, a_rule, whole_some}

@@ -4,7 +4,7 @@ use Rattle.std.specs.Prelude.{◌==◌, nat_lt, Option, Some, None, slice_get, s
 use Rattle.std.specs.List.{list_any, list_all}
 use Rattle.std.proofs.lemmas.Bool.Decides.{nat_tests}
 use Rattle.std.proofs.Math.Bool.{and-true, and-false}
-use Rattle.term_core.specs.declared.terms.Term.{Term, Var, Int, Atom, Node}
+use Rattle.term_core.specs.declared.terms.Term.{Term, Node}
 use Rattle.term_core.proofs.TermFolds.{fold-Var, fold-Int, fold-Atom, fold-Node, ind_terms}
 use Rattle.prog_data.specs.declared.basic_names.TheConstants.{GND_TYPE}
 use Rattle.prog_data.specs.declared.grammars.Basic.TheVariants as basic
@@ -25,7 +25,7 @@ use Rattle.prop_check.specs.OneOf.{SomeBelongs, SomeRule, AreLed, is_whole, Asks
 use Rattle.prop_check.proofs.Belonging.{rules_pass}
 use Rattle.prop_check.proofs.RoundLaws.{itself, any_same, none_within}
 use Rattle.prop_check.proofs.SetLaws.{no_words, none_in}
-use Rattle.prop_check.proofs.ToldLaws.{gnd_alone, each_told, all_told, left_at, same_name}
+use Rattle.prop_check.proofs.ToldLaws.{gnd_alone, all_told, left_at, same_name}
 
 -- the name that is found
 named_some : (m : ℕ) (o : Option ℕ) → has_name m o ≡ true → o ≡ Some m

@@ -1,4 +1,4 @@
-use Rattle.std.proofs.Common.{◌≤◌, length, arith}
+use Rattle.std.proofs.Common.{arith}
 use Rattle.std.specs.Prelude.{option_copied}
 use Rattle.prog_data.specs.Values.{bit_at}
 use Rattle.prop_check.specs.Chains.{sets_behind}

@@ -1,4 +1,3 @@
-use Rattle.std.proofs.Common.{◌≡◌, true, refl}
 use Rattle.prog_data.specs.Values.{bit_at}
 use Rattle.prop_check.proofs.SetLaws.{fewer_absent}
 use Rattle.prop_check.proofs.GatherLaws.{same_closed}

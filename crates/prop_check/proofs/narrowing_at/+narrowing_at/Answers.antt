@@ -1,4 +1,4 @@
-use Rattle.std.proofs.Common.{◌≡◌, suc, ◌+◌, ◌-◌, ◌<◌, ◌≤◌, ℕ, [], length, ◌∷◌, true, ◌&&◌, take, drop, refl, sym, ap, ◌∙◌, subst, arith, true≢false, add-one}
+use Rattle.std.proofs.Common.{◌≡◌, suc, ◌+◌, ◌-◌, ◌<◌, [], length, ◌&&◌, take, drop, refl, sym, ap, ◌∙◌, subst, arith, true≢false}
 use Rattle.std.specs.Prelude.{option_copied}
 use Rattle.term_core.specs.Sizes.{size, size_all}
 use Rattle.term_core.proofs.Sizes.{size_pos}
@@ -7,7 +7,6 @@ use Rattle.prog_data.specs.Membership.{belongs}
 use Rattle.term_heap.specs.Changes.{value_of}
 use Rattle.prop_check.specs.Sets.{AreTold, IsTold, head_holds}
 use Rattle.prop_check.specs.Chains.{sets_behind}
-use Rattle.prop_check.specs.OneOf.{SomeBelongs}
 use Rattle.prop_check.specs.Places.{row_at, compound_at}
 use Rattle.prop_check.proofs.SetLaws.{beyond, named, gathered_none, gathered_more, ended}
 use Rattle.prop_check.proofs.ToldLaws.{all_looked_at, none_looked_at, part_size, one_more_told, settled}

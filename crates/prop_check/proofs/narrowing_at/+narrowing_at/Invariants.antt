@@ -1,4 +1,4 @@
-use Rattle.std.proofs.Common.{◌≡◌, ◌<◌, ◌≤◌, ◌+◌, ◌*◌, ◌&&◌, take}
+use Rattle.std.proofs.Common.{◌<◌, ◌≤◌, ◌+◌, ◌*◌, ◌&&◌, take}
 use Rattle.term_core.specs.Sizes.{size, size_all}
 use Rattle.prog_data.specs.Values.{bit_at}
 use Rattle.prog_data.specs.Membership.{belongs}

@@ -1,4 +1,4 @@
-use Rattle.std.proofs.Common.{[], ◌∷◌, subst, sym, ◌∙◌}
+use Rattle.std.proofs.Common.{subst, sym}
 use Rattle.prog_data.specs.Values.{bit_at}
 use Rattle.prop_check.specs.declared.heads.Head.TheVariants.{Node}
 use Rattle.prop_check.specs.Sets.{head_holds}
