@@ -5,7 +5,6 @@ mod ExitLaws
 mod FewestLaws
 mod FrameLaws
 mod GoalInstances
-mod GroundLaws
 mod LinkLaws
 mod MarkLaws
 mod MomentLaws

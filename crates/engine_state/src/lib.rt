@@ -1,7 +1,6 @@
 //! What the engine holds over cells, and the state that it is.
 #![tactic(auto)]
 
-mod grounds;
 mod laws;
 mod links;
 mod marks;

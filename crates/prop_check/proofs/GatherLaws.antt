@@ -1,5 +1,5 @@
 -- What is gathered from rules: one rule, some rules, and the rules of the names of a set.
-use Rattle.std.proofs.Common.{◌≡◌, ℕ, ◌<◌, ◌≤◌, ◌+◌, Bool, true, false, ◌&&◌, ◌||◌, List, [], length, drop, get_or, refl, ap, sym, ◌∙◌, subst, arith, true≢false}
+use Rattle.std.proofs.Common.{◌≡◌, inr, ℕ, ◌<◌, ◌≤◌, ◌+◌, Bool, true, false, ◌&&◌, ◌||◌, List, [], length, drop, get_or, refl, ap, sym, ◌∙◌, subst, arith, true≢false}
 use Rattle.std.specs.Prelude.{◌==◌, nat_lt, Option, Some, None}
 use Rattle.std.specs.List.{list_any}
 use Rattle.std.proofs.lemmas.Bool.{and_from}
@@ -12,9 +12,8 @@ use Rattle.prog_data.specs.declared.grammars.Rule.{Rule}
 use Rattle.prog_data.specs.declared.grammars.Grammar.{Grammar}
 use Rattle.prop_check.specs.declared.gathering.Look.{Look}
 use Rattle.prop_check.specs.declared.gathering.Look.TheVariants.{Units}
-use Rattle.prop_check.specs.Sets.{has_name, is_picked, finds, IsClosed}
+use Rattle.prop_check.specs.Sets.{has_name, is_picked, finds, finds_in, IsFrom, IsClosed}
 use Rattle.prop_check.proofs.Absent.{past}
-use Rattle.prop_check.proofs.SetLaws.{all_words, all_in, named}
 
 pub or_left : (a b : Bool) → a ≡ true → (a || b) ≡ true
 or_left a b e = ap (λ x. x || b) e
@@ -39,36 +38,36 @@ regroup true b c d = refl
 regroup false true c d = refl
 regroup false false c d = refl
 
-module _ (look : Look) (rules : List Rule) where
+module _ (known : List (ℕ → Bool)) (look : Look) (rules : List Rule) where
   -- the set, and what the rules from one on add
   abbrev pub with_rest : List ℕ → ℕ → ℕ → Bool
-  with_rest ws i m = bit_at ws m || (nat_lt m 512 && list_any (is_picked look m) (drop i rules))
+  with_rest ws i m = bit_at ws m || (nat_lt m 512 && list_any (is_picked known look m) (drop i rules))
 
   pub rest_turn : (old new : List ℕ) (all : ℕ → Bool) (i : ℕ) (r : Rule) → i < length rules → r ≡ get_or rules i r →
-      ((m : ℕ) → bit_at new m ≡ (bit_at old m || (nat_lt m 512 && is_picked look m r))) → ((m : ℕ) → with_rest old i m ≡ all m) → (m : ℕ) → with_rest new (i + 1) m ≡ all m
+      ((m : ℕ) → bit_at new m ≡ (bit_at old m || (nat_lt m 512 && is_picked known look m r))) → ((m : ℕ) → with_rest old i m ≡ all m) → (m : ℕ) → with_rest new (i + 1) m ≡ all m
   rest_turn old new all i r lt e put had m =
-      ap (λ b. b || (nat_lt m 512 && list_any (is_picked look m) (drop (i + 1) rules))) (put m)
-      ∙ regroup (bit_at old m) (nat_lt m 512) (is_picked look m r) (list_any (is_picked look m) (drop (i + 1) rules))
-      ∙ sym (turn (λ rs. bit_at old m || (nat_lt m 512 && list_any (is_picked look m) rs)) rules i r lt e)
+      ap (λ b. b || (nat_lt m 512 && list_any (is_picked known look m) (drop (i + 1) rules))) (put m)
+      ∙ regroup (bit_at old m) (nat_lt m 512) (is_picked known look m r) (list_any (is_picked known look m) (drop (i + 1) rules))
+      ∙ sym (turn (λ rs. bit_at old m || (nat_lt m 512 && list_any (is_picked known look m) rs)) rules i r lt e)
       ∙ had m
 
   pub rest_end : (ws : List ℕ) (all : ℕ → Bool) (i : ℕ) → length rules ≤ i → ((m : ℕ) → with_rest ws i m ≡ all m) → (m : ℕ) → bit_at ws m ≡ all m
   rest_end ws all i le had m =
       sym (or-false (bit_at ws m)) ∙ ap (λ b. bit_at ws m || b) (sym (and-false (nat_lt m 512)))
-      ∙ sym (at_drop_all (λ rs. bit_at ws m || (nat_lt m 512 && list_any (is_picked look m) rs)) rules i le)
+      ∙ sym (at_drop_all (λ rs. bit_at ws m || (nat_lt m 512 && list_any (is_picked known look m) rs)) rules i le)
       ∙ had m
 
 -- the names of a set
 
-module _ (g : Grammar) (look : Look) (from : ℕ → Bool) where
+module _ (g : Grammar) (known : List (ℕ → Bool)) (look : Look) (from : ℕ → Bool) where
   -- the set has what is found at the first names
   abbrev pub FoundBelow : ℕ → List ℕ → Type 0
-  FoundBelow k ws = (n m : ℕ) → n < k → from n ≡ true → finds g look n m ≡ true → m < 512 → bit_at ws m ≡ true
+  FoundBelow k ws = (n m : ℕ) → n < k → from n ≡ true → finds_in g known look n m ≡ true → m < 512 → bit_at ws m ≡ true
 
   pub found_none : (ws : List ℕ) → FoundBelow 0 ws
   found_none ws n m lt r f few = absurd (omega (arith, lt))
 
-  module _ (k : ℕ) (old new : List ℕ) (put : (m : ℕ) → bit_at new m ≡ (bit_at old m || (from k && (nat_lt m 512 && finds g look k m)))) where
+  module _ (k : ℕ) (old new : List ℕ) (put : (m : ℕ) → bit_at new m ≡ (bit_at old m || (from k && (nat_lt m 512 && finds_in g known look k m)))) where
     pub found_kept : (m : ℕ) → bit_at old m ≡ true → bit_at new m ≡ true
     found_kept m e = put m ∙ or_left (bit_at old m) _ e
 
@@ -79,29 +78,35 @@ module _ (g : Grammar) (look : Look) (from : ℕ → Bool) where
         by true e =
             let q : n ≡ k = grind (arith, nat_tests) in
             let s : nat_lt m 512 ≡ true = grind (arith, nat_tests) in
-            put m ∙ or_right (bit_at old m) _ (and_from (from k) _ (subst (λ j. from j ≡ true) q r) (and_from (nat_lt m 512) _ s (subst (λ j. finds g look j m ≡ true) q f)))
+            put m ∙ or_right (bit_at old m) _ (and_from (from k) _ (subst (λ j. from j ≡ true) q r) (and_from (nat_lt m 512) _ s (subst (λ j. finds_in g known look j m ≡ true) q f)))
         by false e = let d : (n ≡ k → ⊥) = grind (arith, nat_tests) in found_kept m (had n m (omega (arith, d, lt)) r f few)
 
 -- a name in whose rules something is found is there
-pub found_named : (g : Grammar) (look : Look) (n m : ℕ) → finds g look n m ≡ true → n < length g.rules
-found_named g look n m f = by (nat_lt n (length g.rules)) refl
+pub found_named : (g : Grammar) (known : List (ℕ → Bool)) (look : Look) (n m : ℕ) → finds_in g known look n m ≡ true → n < length g.rules
+found_named g known look n m f = by (nat_lt n (length g.rules)) refl
   where
     by : (b : Bool) → nat_lt n (length g.rules) ≡ b → n < length g.rules
     by true e = grind (arith, nat_tests)
-    by false e = let le : length g.rules ≤ n = grind (arith, nat_tests) in absurd (true≢false (sym f ∙ ap (list_any (is_picked look m)) (past [] g.rules n le)))
+    by false e = let le : length g.rules ≤ n = grind (arith, nat_tests) in absurd (true≢false (sym f ∙ ap (list_any (is_picked known look m)) (past [] g.rules n le)))
 
 -- so all is found once the names are done
-pub found_all : (g : Grammar) (look : Look) (from : ℕ → Bool) (k : ℕ) (ws : List ℕ) → length g.rules ≤ k → FoundBelow g look from k ws →
-    (n m : ℕ) → from n ≡ true → finds g look n m ≡ true → m < 512 → bit_at ws m ≡ true
-found_all g look from k ws le had n m r f few = let there = found_named g look n m f in had n m (omega (arith, there, le)) r f few
+pub found_all : (g : Grammar) (known : List (ℕ → Bool)) (look : Look) (from : ℕ → Bool) (k : ℕ) (ws : List ℕ) → length g.rules ≤ k → FoundBelow g known look from k ws →
+    (n m : ℕ) → from n ≡ true → finds_in g known look n m ≡ true → m < 512 → bit_at ws m ≡ true
+found_all g known look from k ws le had n m r f few = let there = found_named g known look n m f in had n m (omega (arith, there, le)) r f few
 
--- a set to which nothing is added is closed, and so is that of all names
+-- a set to which nothing is added is closed
+pub same_closed : (g : Grammar) (names next : ℕ → Bool) → ((n : ℕ) → next n ≡ true → names n ≡ true) → ((n m : ℕ) → names n ≡ true → finds g Units n m ≡ true → m < 512 → next m ≡ true) → IsClosed g names
+same_closed g names next none found n m r f lt = none m (found n m r f lt)
 
-pub same_closed : (g : Grammar) (names next : List ℕ) → next ≡ names → ((n m : ℕ) → bit_at names n ≡ true → finds g Units n m ≡ true → m < 512 → bit_at next m ≡ true) → IsClosed g (bit_at names)
-same_closed g names next e found n m r f lt = ap (λ ws. bit_at ws m) (sym e) ∙ found n m r f lt
-
-pub full_closed : (g : Grammar) → IsClosed g (bit_at all_words)
-full_closed g n m r f lt = all_in m lt
-
-pub full_asked : (asked : List ℕ) → length asked ≡ 8 → (n : ℕ) → bit_at asked n ≡ true → bit_at all_words n ≡ true
-full_asked asked l n e = all_in n (named asked n l e)
+-- what is added comes from rules of the set
+module _ (g : Grammar) (known : List (ℕ → Bool)) (look : Look) (from start : ℕ → Bool) (k : ℕ) (old new : ℕ → Bool) (put : (m : ℕ) → new m ≡ (old m || (from k && (nat_lt m 512 && finds_in g known look k m))))
+    (had : (m : ℕ) → old m ≡ true → IsFrom g known look from start m) where
+  pub only_more : (m : ℕ) → new m ≡ true → IsFrom g known look from start m
+  only_more m e = by (old m) (from k) (nat_lt m 512) (finds_in g known look k m) refl refl refl (sym (put m) ∙ e)
+    where
+      by : (a b c d : Bool) → old m ≡ a → from k ≡ b → finds_in g known look k m ≡ d → (a || (b && (c && d))) ≡ true → IsFrom g known look from start m
+      by true b c d p q r e = had m p
+      by false true true true p q r e = inr (k, q, r)
+      by false true true false p q r e = absurd (true≢false (sym e))
+      by false true false d p q r e = absurd (true≢false (sym e))
+      by false false c d p q r e = absurd (true≢false (sym e))

@@ -35,7 +35,7 @@ none_within g p k n le = rules_pass g p k n ∙ ap (list_any (passes p k g)) (pa
 module _ (g : Grammar) (few : length g.rules ≤ 512) (reach : ℕ → Bool) (closed : IsClosed g reach) where
   -- a unit rule leads to a name of the set, or to one that is not there
   led : (n m : ℕ) → reach n ≡ true → In (UnitRule m) (rules_of g n) → m < 512 → reach m ≡ true
-  led n m r i lt = closed n m r (in_any (is_picked Units m) (rules_of g n) i (itself m)) lt
+  led n m r i lt = closed n m r (in_any (is_picked [] Units m) (rules_of g n) i (itself m)) lt
 
   unit_same : (p : Rule → Bool) (k n m : ℕ) → reach n ≡ true → In (UnitRule m) (rules_of g n) → (reach m && holds_within g p k m) ≡ holds_within g p k m
   unit_same p k n m r i = by (nat_lt m 512) refl

@@ -1,12 +1,12 @@
 -- The bits of sets: what is put in, the set of none and that of all, and what a loop over the names puts in.
-use Rattle.std.proofs.Common.{◌≡◌, inl, inr, ℕ, zero, suc, ◌<◌, ◌≤◌, ◌+◌, ◌*◌, ◌/◌, ◌%◌, Bool, true, false, ◌&&◌, ◌||◌, List, [], ◌∷◌, length, refl, ap, sym, ◌∙◌, arith, bit_or, w64, true≢false}
-use Rattle.std.specs.Prelude.{slice_index_or, slice_set, ◌==◌, ◌^◌, nat_lt}
+use Rattle.std.proofs.Common.{◌≡◌, ◌⊎◌, inl, inr, ℕ, zero, suc, ◌<◌, ◌≤◌, ◌+◌, ◌*◌, ◌/◌, ◌%◌, Bool, true, false, ◌&&◌, ◌||◌, List, [], ◌∷◌, length, refl, ap, sym, ◌∙◌, arith, bit_or, w64, true≢false}
+use Rattle.std.specs.Prelude.{slice_index_or, slice_set, ◌==◌, ◌^◌, nat_lt, not}
 use Rattle.std.specs.List.{list_any}
 use Rattle.std.proofs.lemmas.Bool.{cases_eq}
 use Rattle.std.proofs.lemmas.Bool.Decides.{nat_tests}
 use Rattle.std.proofs.Math.Bool.{or-true, or-false, and-true, and-false}
 use Rattle.std.proofs.lemmas.List.{get_or-set_same, get_or-set_other}
-use Rattle.std.proofs.lemmas.Nat.Bits.{bit_at_set_same, bit_at_set_other, bit_at-zero, bit_at_ones}
+use Rattle.std.proofs.lemmas.Nat.Bits.{bit_at_set_same, bit_at_set_other, bit_at-zero}
 use Rattle.prog_data.specs.Values.{bit_at}
 use Rattle.prog_data.specs.declared.grammars.Rule.{Rule}
 use Rattle.prog_data.specs.declared.grammars.Grammar.{Grammar}
@@ -101,25 +101,6 @@ none_in n = ap (λ w. (w / 2 ^ (n % 64)) % 2 == 1) (zero_word (n / 64)) ∙ ap (
     zero_word (suc (suc (suc (suc (suc (suc (suc zero))))))) = refl
     zero_word (suc (suc (suc (suc (suc (suc (suc (suc n)))))))) = refl
 
--- each bit is set in words that have all
-abbrev pub all_words : List ℕ
-all_words =
-    18446744073709551615 ∷ 18446744073709551615 ∷ 18446744073709551615 ∷ 18446744073709551615 ∷ 18446744073709551615 ∷ 18446744073709551615 ∷ 18446744073709551615 ∷ 18446744073709551615 ∷ []
-
-pub all_in : (n : ℕ) → n < 512 → bit_at all_words n ≡ true
-all_in n lt = ap (λ w. (w / 2 ^ (n % 64)) % 2 == 1) (word (n / 64) (omega (arith, lt))) ∙ ap (λ b. b == 1) (bit_at_ones 64 (n % 64) (omega arith))
-  where
-    word : (n : ℕ) → n < 8 → slice_index_or all_words n 0 ≡ 18446744073709551615
-    word zero lt = refl
-    word (suc zero) lt = refl
-    word (suc (suc zero)) lt = refl
-    word (suc (suc (suc zero))) lt = refl
-    word (suc (suc (suc (suc zero)))) lt = refl
-    word (suc (suc (suc (suc (suc zero))))) lt = refl
-    word (suc (suc (suc (suc (suc (suc zero)))))) lt = refl
-    word (suc (suc (suc (suc (suc (suc (suc zero))))))) lt = refl
-    word (suc (suc (suc (suc (suc (suc (suc (suc n)))))))) lt = absurd (omega (arith, lt))
-
 -- what is in a set is below 512
 pub named : (ws : List ℕ) (n : ℕ) → length ws ≡ 8 → bit_at ws n ≡ true → n < 512
 named ws n l e = by (nat_lt n 512) refl
@@ -127,6 +108,50 @@ named ws n l e = by (nat_lt n 512) refl
     by : (b : Bool) → nat_lt n 512 ≡ b → n < 512
     by true f = grind (arith, nat_tests)
     by false f = let le : 512 ≤ n = grind (arith, nat_tests) in absurd (true≢false (sym e ∙ beyond ws n l le))
+
+-- how many of the first names are not in a set
+abbrev pub one_where : Bool → ℕ
+one_where true = 1
+one_where false = 0
+
+abbrev pub absent : (ℕ → Bool) → ℕ → ℕ
+absent has zero = 0
+absent has (suc k) = one_where (not (has k)) + absent has k
+
+fewer_here : (a b : Bool) → (a ≡ true → b ≡ true) → one_where (not b) ≤ one_where (not a)
+fewer_here true true h = omega arith
+fewer_here true false h = absurd (true≢false (sym (h refl)))
+fewer_here false true h = omega arith
+fewer_here false false h = omega arith
+
+no_more_absent : (old new : ℕ → Bool) → ((n : ℕ) → old n ≡ true → new n ≡ true) → (k : ℕ) → absent new k ≤ absent old k
+no_more_absent old new kept zero = omega arith
+no_more_absent old new kept (suc k) = omega (arith, fewer_here (old k) (new k) (kept k), no_more_absent old new kept k)
+
+-- fewer are where one comes in and none is taken out
+pub fewer_absent : (old new : ℕ → Bool) → ((n : ℕ) → old n ≡ true → new n ≡ true) → (n : ℕ) → new n ≡ true → old n ≡ false → (k : ℕ) → n < k → absent new k < absent old k
+fewer_absent old new kept n e f zero lt = absurd (omega (arith, lt))
+fewer_absent old new kept n e f (suc k) lt = by (cases_eq n k) (fewer_absent old new kept n e f k)
+  where
+    by : (n ≡ k) ⊎ (n ≡ k → ⊥) → (n < k → absent new k < absent old k) → absent new (suc k) < absent old (suc k)
+    by (inl q) less =
+        let now : one_where (not (new k)) ≡ 0 = ap (λ j. one_where (not (new j))) (sym q) ∙ ap (λ b. one_where (not b)) e in
+        let was : one_where (not (old k)) ≡ 1 = ap (λ j. one_where (not (old j))) (sym q) ∙ ap (λ b. one_where (not b)) f in
+        omega (arith, now, was, no_more_absent old new kept k)
+    by (inr d) less = omega (arith, fewer_here (old k) (new k) (kept k), less (omega (arith, d, lt)))
+
+-- a set that is one name has one
+pub one_name : (names single : List ℕ) (name : ℕ) → names ≡ single → ((n : ℕ) → bit_at single n ≡ (bit_at no_words n || (nat_lt n 512 && n == name))) →
+    (n m : ℕ) → bit_at names n ≡ true → bit_at names m ≡ true → n ≡ m
+one_name names single name e put n m a b = is n a ∙ sym (is m b)
+  where
+    is : (n : ℕ) → bit_at names n ≡ true → n ≡ name
+    is n a = by (nat_lt n 512) (n == name) refl (sym (ap (λ b. b || (nat_lt n 512 && n == name)) (none_in n)) ∙ sym (put n) ∙ ap (λ ws. bit_at ws n) (sym e) ∙ a)
+      where
+        by : (c d : Bool) → (n == name) ≡ d → (c && d) ≡ true → n ≡ name
+        by true true f h = grind (arith, nat_tests)
+        by true false f h = absurd (true≢false (sym h))
+        by false d f h = absurd (true≢false (sym h))
 
 -- the set has those of the first names that pass
 abbrev pub Gathered : (ℕ → Bool) → ℕ → List ℕ → Type 0
@@ -166,6 +191,9 @@ gathered_all test k ws had absent n = had n ∙ at (nat_lt n k) refl
     at : (b : Bool) → nat_lt n k ≡ b → (b && test n) ≡ test n
     at true e = refl
     at false e = let le : k ≤ n = grind (arith, nat_tests) in sym (absent n le)
+
+pub ended : (test : ℕ → Bool) (k : ℕ) (ws : List ℕ) (n : ℕ) → n < k → Gathered test k ws → bit_at ws n ≡ test n
+ended test k ws n lt had = let below : nat_lt n k ≡ true = grind (arith, nat_tests) in had n ∙ ap (λ b. b && test n) below
 
 -- no rule of a name that is not there holds
 pub absent_name : (g : Grammar) (reach : ℕ → Bool) (holds : Rule → Bool) (n : ℕ) → length g.rules ≤ n → (reach n && list_any holds (rules_of g n)) ≡ false

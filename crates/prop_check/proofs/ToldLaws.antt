@@ -22,17 +22,19 @@ use Rattle.prog_data.proofs.Leaves.{In, in_any}
 use Rattle.prog_data.specs.Values.{bit_at}
 use Rattle.prop_check.specs.declared.gathering.Look.TheVariants.{Part}
 use Rattle.prop_check.specs.Belonging.{passes}
-use Rattle.prop_check.specs.Sets.{Fits, has_name, is_picked, finds, IsClosed, AreTold, IsTold, each_has, node_holds, leaf_holds}
+use Rattle.prop_check.specs.Sets.{Fits, has_name, is_picked, finds, IsClosed, AreTold, IsTold, each_has, node_holds, head_holds}
+use Rattle.prop_check.specs.Heads.{head_of}
+use Rattle.prop_check.specs.declared.heads.Head.TheVariants as head
 use Rattle.prop_check.proofs.Belonging.{rules_pass}
 use Rattle.prop_check.proofs.GatherLaws.{or_right}
 use Rattle.prop_check.proofs.RoundLaws.{itself, holds_within, none_within, alike_within}
 use Rattle.prop_check.proofs.SetLaws.{beyond, no_words, none_in}
 
-same_name : (a b : ℕ) → (a == b) ≡ true → a ≡ b
+pub same_name : (a b : ℕ) → (a == b) ≡ true → a ≡ b
 same_name a b e = grind (arith, nat_tests)
 
 -- what is left of a list begins with what stands in that place
-left_at : (xs : List ℕ) (i x : ℕ) (rest : List ℕ) → x ∷ rest ≡ drop i xs → (slice_get xs i ≡ Some x) × (rest ≡ drop (suc i) xs)
+pub left_at : (xs : List ℕ) (i x : ℕ) (rest : List ℕ) → x ∷ rest ≡ drop i xs → (slice_get xs i ≡ Some x) × (rest ≡ drop (suc i) xs)
 left_at [] zero x rest e = absurd (omega (arith, ap length e))
 left_at [] (suc i) x rest e = absurd (omega (arith, ap length e))
 left_at (y ∷ ys) zero x rest e = (ap (λ l. slice_get l 0) (sym e), ap (drop 1) e)
@@ -46,22 +48,22 @@ taken (u ∷ ts) (suc i) t lt e = omega (arith, taken ts i t (omega (arith, lt))
 
 module _ (g : Grammar) where
   -- a term that is no compound
-  pub atomic_holds : (known : List (ℕ → Bool)) (t : Term) → is_compound (out-Term t) ≡ false → (r : Rule) → leaf_holds known (out-Term t) r ≡ admits g t r
+  pub atomic_holds : (known : List (ℕ → Bool)) (t : Term) → is_compound (out-Term t) ≡ false → (r : Rule) → head_holds known (head_of (out-Term t)) r ≡ admits g t r
   atomic_holds known =
-      ind_terms (λ t. is_compound (out-Term t) ≡ false → (r : Rule) → leaf_holds known (out-Term t) r ≡ admits g t r)
-      (λ v h r. ap (λ x. leaf_holds known x r) (outs-Var v) ∙ sym (ap (λ p. p r) (fold-Var _ (admits_step g) v)))
-      (λ n h r. ap (λ x. leaf_holds known x r) (outs-Int n) ∙ sym (ap (λ p. p r) (fold-Int _ (admits_step g) n)))
-      (λ a h r. ap (λ x. leaf_holds known x r) (outs-Atom a) ∙ sym (ap (λ p. p r) (fold-Atom _ (admits_step g) a)))
+      ind_terms (λ t. is_compound (out-Term t) ≡ false → (r : Rule) → head_holds known (head_of (out-Term t)) r ≡ admits g t r)
+      (λ v h r. ap (λ x. head_holds known (head_of x) r) (outs-Var v) ∙ sym (ap (λ p. p r) (fold-Var _ (admits_step g) v)))
+      (λ n h r. ap (λ x. head_holds known (head_of x) r) (outs-Int n) ∙ sym (ap (λ p. p r) (fold-Int _ (admits_step g) n)))
+      (λ a h r. ap (λ x. head_holds known (head_of x) r) (outs-Atom a) ∙ sym (ap (λ p. p r) (fold-Atom _ (admits_step g) a)))
       (λ f ts ih h r. absurd (true≢false (sym (ap is_compound (outs-Node f ts)) ∙ h)))
 
   module _ (fits : Fits g) where
     -- gnd has its own rule alone
-    gnd_alone : (t : Term) → belongs g t GND_TYPE ≡ admits g t (rule.Basic basic.Gnd)
+    pub gnd_alone : (t : Term) → belongs g t GND_TYPE ≡ admits g t (rule.Basic basic.Gnd)
     gnd_alone t = rules_pass g (admits g t) (length g.rules) GND_TYPE ∙ ap (list_any (passes (admits g t) (length g.rules) g)) fits.gnd ∙ or-false (admits g t (rule.Basic basic.Gnd))
 
     module _ (reach : ℕ → Bool) (f n : ℕ) (r : reach n ≡ true) where
       -- the names of a rule
-      each_told : (place : ℕ) (ts : List Term) (sets : List (ℕ → Bool)) (ns whole : List ℕ) → AreTold g reach f place ts sets → In (rule.Node f whole) (rules_of g n) → ns ≡ drop place whole →
+      pub each_told : (place : ℕ) (ts : List Term) (sets : List (ℕ → Bool)) (ns whole : List ℕ) → AreTold g reach f place ts sets → In (rule.Node f whole) (rules_of g n) → ns ≡ drop place whole →
           each_has sets ns ≡ admit_each g (map (admits g) ts) ns
       each_told place [] [] [] whole told i e = refl
       each_told place [] [] (m ∷ ns) whole told i e = refl
@@ -71,23 +73,23 @@ module _ (g : Grammar) where
       each_told place (t ∷ ts) (s ∷ sets) (m ∷ ns) whole told i e =
           ap (λ b. b && each_has sets ns) (told.0 n m r found) ∙ ap (λ b. belongs g t m && b) (each_told (suc place) ts sets ns whole told.1 i (left_at whole place m ns e).1)
         where
-          picks : is_picked (Part f place) m (rule.Node f whole) ≡ true
+          picks : is_picked [] (Part f place) m (rule.Node f whole) ≡ true
           picks = ap (λ b. has_name m (if b then slice_get whole place else None)) (itself f) ∙ ap (has_name m) (left_at whole place m ns e).0 ∙ itself m
 
           found : finds g (Part f place) n m ≡ true
-          found = in_any (is_picked (Part f place) m) (rules_of g n) i picks
+          found = in_any (is_picked [] (Part f place) m) (rules_of g n) i picks
 
       -- the rule gnd
-      all_told : (place : ℕ) (ts : List Term) (sets : List (ℕ → Bool)) → AreTold g reach f place ts sets → In (rule.Basic basic.Gnd) (rules_of g n) →
+      pub all_told : (place : ℕ) (ts : List Term) (sets : List (ℕ → Bool)) → AreTold g reach f place ts sets → In (rule.Basic basic.Gnd) (rules_of g n) →
           list_all (λ has. has GND_TYPE) sets ≡ list_all (λ p. p (rule.Basic basic.Gnd)) (map (admits g) ts)
       all_told place [] [] told i = refl
       all_told place [] (s ∷ sets) told i = absurd told
       all_told place (t ∷ ts) [] told i = absurd told
       all_told place (t ∷ ts) (s ∷ sets) told i =
-          ap (λ b. b && list_all (λ has. has GND_TYPE) sets) (told.0 n GND_TYPE r (in_any (is_picked (Part f place) GND_TYPE) (rules_of g n) i refl) ∙ gnd_alone t)
+          ap (λ b. b && list_all (λ has. has GND_TYPE) sets) (told.0 n GND_TYPE r (in_any (is_picked [] (Part f place) GND_TYPE) (rules_of g n) i refl) ∙ gnd_alone t)
           ∙ ap (λ b. admits g t (rule.Basic basic.Gnd) && b) (all_told (suc place) ts sets told.1 i)
 
-      rule_told : (ts : List Term) (sets : List (ℕ → Bool)) → AreTold g reach f 0 ts sets → (x : Rule) → In x (rules_of g n) → node_holds sets f x ≡ admits_node g f (map (admits g) ts) x
+      pub rule_told : (ts : List Term) (sets : List (ℕ → Bool)) → AreTold g reach f 0 ts sets → (x : Rule) → In x (rules_of g n) → node_holds sets f x ≡ admits_node g f (map (admits g) ts) x
       rule_told ts sets told (rule.Basic basic.Term) i = refl
       rule_told ts sets told (rule.Basic basic.Struct) i = refl
       rule_told ts sets told (rule.Basic basic.Gnd) i = all_told 0 ts sets told i
@@ -104,14 +106,13 @@ module _ (g : Grammar) where
           by false e = refl
 
     -- a compound
-    node_told : (reach : ℕ → Bool) (f : ℕ) (ts : List Term) (sets : List (ℕ → Bool)) → AreTold g reach f 0 ts sets → (n : ℕ) (x : Rule) → reach n ≡ true → In x (rules_of g n) →
-        leaf_holds sets (out-Term (Node f ts)) x ≡ admits g (Node f ts) x
-    node_told reach f ts sets told n x r i =
-        ap (λ y. leaf_holds sets y x) (outs-Node f ts) ∙ rule_told reach f n r ts sets told x i ∙ sym (ap (λ p. p x) (fold-Node _ (admits_step g) f ts))
+    pub node_told : (reach : ℕ → Bool) (f : ℕ) (ts : List Term) (sets : List (ℕ → Bool)) → AreTold g reach f 0 ts sets → (n : ℕ) (x : Rule) → reach n ≡ true → In x (rules_of g n) →
+        head_holds sets (head.Node f) x ≡ admits g (Node f ts) x
+    node_told reach f ts sets told n x r i = rule_told reach f n r ts sets told x i ∙ sym (ap (λ p. p x) (fold-Node _ (admits_step g) f ts))
 
     module _ (reach : ℕ → Bool) (closed : IsClosed g reach) (result : ℕ → Bool) where
       -- what is settled is what belongs, where leaves hold as they admit
-      settled : (holds : Rule → Bool) (t : Term) → ((n : ℕ) (x : Rule) → reach n ≡ true → In x (rules_of g n) → holds x ≡ admits g t x) →
+      pub settled : (holds : Rule → Bool) (t : Term) → ((n : ℕ) (x : Rule) → reach n ≡ true → In x (rules_of g n) → holds x ≡ admits g t x) →
           ((n : ℕ) → result n ≡ (reach n && holds_within g holds (length g.rules) n)) → (n : ℕ) → result n ≡ (reach n && belongs g t n)
       settled holds t alike is n = is n ∙ by (reach n) refl
         where
@@ -119,18 +120,18 @@ module _ (g : Grammar) where
           by true e = alike_within g fits.few reach closed holds (admits g t) alike (length g.rules) n e
           by false e = refl
 
-      pub atomic_settled : (known : List (ℕ → Bool)) (t : Term) → is_compound (out-Term t) ≡ false → ((n : ℕ) → result n ≡ (reach n && holds_within g (leaf_holds known (out-Term t)) (length g.rules) n)) →
+      pub atomic_settled : (known : List (ℕ → Bool)) (t : Term) → is_compound (out-Term t) ≡ false → ((n : ℕ) → result n ≡ (reach n && holds_within g (head_holds known (head_of (out-Term t))) (length g.rules) n)) →
           (n : ℕ) → result n ≡ (reach n && belongs g t n)
-      atomic_settled known t h = settled (leaf_holds known (out-Term t)) t (λ n x r i. atomic_holds known t h x)
+      atomic_settled known t h = settled (head_holds known (head_of (out-Term t))) t (λ n x r i. atomic_holds known t h x)
 
       pub node_settled : (t : Term) (f : ℕ) (ts : List Term) (sets : List (ℕ → Bool)) → t ≡ Node f ts → AreTold g reach f 0 ts sets →
-          ((n : ℕ) → result n ≡ (reach n && holds_within g (leaf_holds sets (out-Term t)) (length g.rules) n)) → (n : ℕ) → result n ≡ (reach n && belongs g t n)
+          ((n : ℕ) → result n ≡ (reach n && holds_within g (head_holds sets (head.Node f)) (length g.rules) n)) → (n : ℕ) → result n ≡ (reach n && belongs g t n)
       node_settled t f ts sets e told =
-          settled (leaf_holds sets (out-Term t)) t (subst (λ t. (n : ℕ) (x : Rule) → reach n ≡ true → In x (rules_of g n) → leaf_holds sets (out-Term t) x ≡ admits g t x) (sym e) (node_told reach f ts sets told))
+          settled (head_holds sets (head.Node f)) t (subst (λ t. (n : ℕ) (x : Rule) → reach n ≡ true → In x (rules_of g n) → head_holds sets (head.Node f) x ≡ admits g t x) (sym e) (node_told reach f ts sets told))
 
 -- all parts are looked at
 pub all_looked_at : (g : Grammar) (reach : ℕ → Bool) (t : Term) (f : ℕ) (ts : List Term) (left : ℕ) (sets : List (ℕ → Bool)) (result : ℕ → Bool) → IsTold g reach t f ts left sets → left ≡ 0 →
-    ((n : ℕ) → result n ≡ (reach n && holds_within g (leaf_holds sets (out-Term t)) (length g.rules) n)) → (n : ℕ) → result n ≡ (reach n && belongs g t n)
+    ((n : ℕ) → result n ≡ (reach n && holds_within g (head_holds sets (head.Node f)) (length g.rules) n)) → (n : ℕ) → result n ≡ (reach n && belongs g t n)
 all_looked_at g reach t f ts left sets result is e =
     node_settled g is.fits reach is.closed result t f ts sets is.compound (subst (λ k. AreTold g reach f k (drop k ts) sets) e is.told)
 

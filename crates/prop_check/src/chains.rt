@@ -3,7 +3,7 @@ ghost use Rattle.std.specs.Prelude.{◌≡◌, ◌&&◌, ◌∷◌, [], option_c
 ghost use Rattle.std.specs.List.{list_all};
 ghost use Rattle.prog_data.specs.Values.{bit_at};
 ghost use Rattle.prog_data.specs.declared.basic_names.TheConstants.{GND_TYPE};
-ghost use Rattle.prop_check.specs.Sets.{each_has};
+ghost use Rattle.prop_check.specs.Sets.{each_has, last_name};
 ghost use Rattle.prop_check.specs.Chains.{sets_of, sets_behind};
 
 use crate::sets::has;
@@ -54,6 +54,41 @@ pub(crate) fn all_have(behind: Option<&Known>, names: &[u64]) -> bool
         [first, rest @ ..] => match behind {
             None => false,
             Some(known) => first_has(known, *first, rest),
+        },
+    }
+}
+
+// The name, where there is no other.
+fn alone(name: u64, others: &[u64]) -> Option<u64>
+    ensures { result ≡ last_name [] (name ∷ others.now) }
+{
+    match others {
+        [] => Some(name),
+        _ => None,
+    }
+}
+
+// The last of the names, where the first part and those behind it have the names before it.
+#[cycle(last)]
+fn last_behind(known: &Known, first: u64, rest: &[u64]) -> Option<u64>
+    ensures { result ≡ last_name (sets_of known.now) (first ∷ rest.now) }
+{
+    if !has(known.names, first) {
+        return None;
+    }
+    last_name(known.behind, rest)
+}
+
+/// The last of the names, where each part has the name in its place, and there is one name more.
+#[cycle(last)]
+pub(crate) fn last_name(behind: Option<&Known>, names: &[u64]) -> Option<u64>
+    ensures { result ≡ last_name (sets_behind (option_copied behind.entry)) names.now }
+{
+    match names {
+        [] => None,
+        [first, rest @ ..] => match behind {
+            None => alone(*first, rest),
+            Some(known) => last_behind(known, *first, rest),
         },
     }
 }

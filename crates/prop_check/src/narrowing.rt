@@ -7,7 +7,8 @@ ghost use Rattle.prop_check.specs.Sets.{Fits, IsTold};
 ghost use Rattle.prop_check.specs.Chains.{sets_behind};
 
 use crate::chains::{Known, link};
-use crate::gathering::{Look, gather, reach};
+use crate::gathering::{Look, gather_first, reach};
+use crate::heads::{Head, head_of};
 use crate::sets::is_same;
 use crate::settling::settle;
 use prog_data::Grammar;
@@ -31,12 +32,12 @@ fn narrowed(
     ensures { (n : ℕ) → bit_at names.new n ≡ (bit_at reach.now n && belongs grammar.now term.now n) }
 {
     if left == 0 {
-        settle(grammar, reach, term, behind, names);
+        settle(grammar, reach, &Head::Node(name), behind, names);
         return;
     }
     let place = left - 1;
     let mut asked = [0; 8];
-    gather(grammar, reach, Look::Part(name, place), &mut asked);
+    gather_first(grammar, reach, Look::Part(name, place), &mut asked);
     narrow(grammar, &mut asked, &parts[place]);
     let known = link(&asked, behind);
     narrowed(
@@ -62,7 +63,7 @@ pub(crate) fn narrow(grammar: &Grammar, names: &mut [u64; 8], term: &Term)
     }
     let closed = reach(grammar, names);
     match term.compound() {
-        None => settle(grammar, &closed, term, None, names),
+        None => settle(grammar, &closed, &head_of(term), None, names),
         Some((name, parts)) => {
             narrowed(
                 grammar,

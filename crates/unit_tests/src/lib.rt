@@ -14,6 +14,8 @@ mod generated;
 #[cfg(test)]
 mod grammar_rules;
 #[cfg(test)]
+mod membership;
+#[cfg(test)]
 mod properties;
 #[cfg(test)]
 mod texts;

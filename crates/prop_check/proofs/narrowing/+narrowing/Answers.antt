@@ -35,6 +35,6 @@ narrowed-narrowed-requires t c =
     let whole : size_all (take c.args.left parts) ≡ size_all (take place parts) + size part = part_size g reach c.args.term.now c.args.name parts c.args.left place behind c.requires next part c.index-parts-place.is in (
       omega (arith, whole, size_pos part, c.decreases),
       subst (IsTold g reach c.args.term.now c.args.name parts place) (sym c.link-known.ensures)
-          (one_more_told g reach c.args.term.now c.args.name parts c.args.left place behind c.requires next part c.index-parts-place.is (bit_at c.gather.new.names) (bit_at c.narrow.new.names) c.gather.ensures.found c.narrow.ensures
+          (one_more_told g reach c.args.term.now c.args.name parts c.args.left place behind c.requires next part c.index-parts-place.is (bit_at c.gather_first.new.names) (bit_at c.narrow.new.names) c.gather_first.ensures.found c.narrow.ensures
           (λ m le. beyond c.narrow.new.names m c.narrow.array_long le)),
     )

@@ -2,8 +2,8 @@ use Rattle.std.proofs.Common.{◌≡◌, ◌≤◌, ◌<◌, ◌+◌, ◌-◌, �
 use Rattle.term_core.specs.Terms.{is_ground}
 use Rattle.term_core.specs.Sizes.{size}
 use Rattle.term_heap.specs.Changes.{size_of, value_of}
-use Rattle.engine_state.proofs.GroundLaws.{sizes, all_ground}
-use Rattle.engine_state.proofs.grounds.+grounds.Given as goal
+use Rattle.prop_check.proofs.GroundLaws.{sizes, all_ground}
+use Rattle.prop_check.proofs.grounds.+grounds.Given as goal
 
 abbrev pub decreases-are_ground_at : goal.decreases-are_ground_at
 decreases-are_ground_at l = 2 * sizes (value_of l.heap.now.changes) l.first l.count + 2

@@ -6,9 +6,9 @@ ghost use Rattle.term_heap.specs.Changes.{size_of, value_of, places};
 
 use term_heap::{Cell, Heap};
 
-// Whether the terms of so many places, from the first on, have no variable.
+/// Whether the terms of so many places, from the first on, have no variable.
 #[cycle(grounds)]
-fn are_ground_at(heap: &Heap, first: u64, count: u64) -> bool
+pub fn are_ground_at(heap: &Heap, first: u64, count: u64) -> bool
     requires { first + count ≤ size_of heap.now.changes }
     ensures { result ≡ list_all (λ p. is_ground (value_of heap.now.changes p)) (places first count) }
 {
@@ -24,7 +24,7 @@ fn are_ground_at(heap: &Heap, first: u64, count: u64) -> bool
 
 /// Whether the term of a place has no variable. Along last arguments it needs no stack.
 #[cycle(grounds)]
-pub(crate) fn is_ground_at(heap: &Heap, place: u64) -> bool
+pub fn is_ground_at(heap: &Heap, place: u64) -> bool
     requires { place < size_of heap.now.changes }
     ensures { result ≡ is_ground (value_of heap.now.changes place) }
 {

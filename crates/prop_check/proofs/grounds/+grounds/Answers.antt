@@ -2,8 +2,8 @@ use Rattle.std.proofs.Common.{◌≤◌, ◌+◌, ◌-◌, ◌&&◌, sym, ap, �
 use Rattle.term_core.specs.Terms.{is_ground}
 use Rattle.term_core.specs.Sizes.{size}
 use Rattle.term_heap.specs.Changes.{value_of}
-use Rattle.engine_state.proofs.GroundLaws.{sizes, all_ground, place_size, fewer_sizes, first_apart, of_free, of_int, of_atom, of_node, node_apart, size_of_node, row_within}
-use Rattle.engine_state.proofs.grounds.+grounds.Goals as goal
+use Rattle.prop_check.proofs.GroundLaws.{sizes, all_ground, place_size, fewer_sizes, first_apart, of_free, of_int, of_atom, of_node, node_apart, size_of_node, row_within}
+use Rattle.prop_check.proofs.grounds.+grounds.Goals as goal
 
 pub are_ground_at-is_ground_at-requires : goal.are_ground_at-is_ground_at-requires
 are_ground_at-is_ground_at-requires t c =
