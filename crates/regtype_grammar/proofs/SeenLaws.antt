@@ -1,5 +1,5 @@
 -- The grammar names of types that are seen.
-use Rattle.std.proofs.Common.{◌≡◌, ℕ, zero, suc, ◌+◌, ◌-◌, ◌<◌, ◌≤◌, nat_lt, nat_le, Bool, true, false, List, [], ◌∷◌, ◌++◌, length, refl, ap, ◌∙◌, arith}
+use Rattle.std.proofs.Common.{◌≡◌, ℕ, zero, suc, ◌+◌, ◌-◌, ◌<◌, ◌≤◌, nat_lt, nat_le, Bool, true, false, false≢true, List, [], ◌∷◌, ◌++◌, length, refl, ap, ◌∙◌, arith}
 use Rattle.std.specs.Prelude.{cond, filter, slice_get, slice_index_or}
 use Rattle.std.specs.List.{list_all, AllByRecursion}
 use Rattle.std.proofs.lemmas.Bool.{and_parts}
@@ -9,9 +9,10 @@ use Rattle.term_core.specs.declared.fixed.TheConstants.{TERM, LIST}
 use Rattle.prog_data.specs.declared.grammars.Seen.{Seen}
 use Rattle.regtype_grammar.specs.declared.meanings.Meaning.{Meaning}
 use Rattle.regtype_grammar.specs.declared.meanings.Meaning.TheVariants.{One, Unknown, Several}
+use Rattle.regtype_grammar.specs.declared.modules.RegType.{RegType}
 use Rattle.regtype_grammar.specs.declared.modules.SeenType.{SeenType}
 use Rattle.regtype_grammar.specs.declared.modules.TypeModule.{TypeModule}
-use Rattle.regtype_grammar.specs.TypeNames.{is_basic_type, is_basic_name, count_types, starts, first_names, number_of, are_few, numbered, meaning_of, is_named, meaning, IsMeaningBelow, MeaningsStayInRange, is_within, is_seen_in, are_seen}
+use Rattle.regtype_grammar.specs.TypeNames.{is_basic_type, is_basic_name, count_types, starts, first_names, number_of, are_few, numbered, meaning_of, is_named, meaning, IsMeaningBelow, MeaningsStayInRange, has_type_name, is_within, is_seen_in, are_seen}
 use Rattle.regtype_grammar.specs.Grammars.{number}
 use Rattle.regtype_grammar.proofs.EachLaws.{each_test, test_each, each_map, each_filter}
 
@@ -47,11 +48,16 @@ pub few_later : (firsts : List ℕ) (one : SeenType) (rest : List SeenType) → 
 few_later firsts one rest e = (and_parts (nat_le (number_of firsts one) 512) (are_few firsts rest) e).1
 
 -- a type of a module has a name behind the first one, and before the one that is behind all types
-seen_below : (n : ℕ) (ms : List TypeModule) (k position : ℕ) → is_within position (slice_get ms k) ≡ true → slice_index_or (starts n ms) k 0 + position < n + count_types ms
-seen_below n [] k position e = cc
-seen_below n (m ∷ ms) zero position e = let own : position < length m.types = less position (length m.types) e in omega (arith, own)
-seen_below n (m ∷ ms) (suc k) position e =
-    let rest : slice_index_or (starts (length m.types + n) ms) k 0 + position < (length m.types + n) + count_types ms = seen_below (length m.types + n) ms k position e in omega (arith, rest)
+named_below : (name : ℕ) (ts : List RegType) (position : ℕ) → has_type_name name (slice_get ts position) ≡ true → position < length ts
+named_below name [] position e = absurd (false≢true e)
+named_below name (t ∷ ts) zero e = let some : 0 < suc (length ts) = omega arith in some
+named_below name (t ∷ ts) (suc position) e = let rest : position < length ts = named_below name ts position e in let more : suc position < suc (length ts) = omega (arith, rest) in more
+
+seen_below : (n : ℕ) (ms : List TypeModule) (k name position : ℕ) → is_within name position (slice_get ms k) ≡ true → slice_index_or (starts n ms) k 0 + position < n + count_types ms
+seen_below n [] k name position e = absurd (false≢true e)
+seen_below n (m ∷ ms) zero name position e = let own : position < length m.types = named_below name m.types position e in omega (arith, own)
+seen_below n (m ∷ ms) (suc k) name position e =
+    let rest : slice_index_or (starts (length m.types + n) ms) k 0 + position < (length m.types + n) + count_types ms = seen_below (length m.types + n) ms k name position e in omega (arith, rest)
 
 -- where all types that are seen are types of the modules
 module _ (modules : List TypeModule) (seen : are_seen modules ≡ true) where
@@ -59,7 +65,7 @@ module _ (modules : List TypeModule) (seen : are_seen modules ≡ true) where
   IsNumbered s = number_of (first_names modules) s < 10 + count_types modules
 
   number_below : (s : SeenType) → is_seen_in modules s ≡ true → IsNumbered s
-  number_below s e = seen_below 10 modules s.module s.position e
+  number_below s e = seen_below 10 modules s.module s.name s.position e
 
   pub numbers_below : AllByRecursion (λ m. AllByRecursion IsNumbered m.visible) modules
   numbers_below = test_each (λ m. AllByRecursion IsNumbered m.visible) (λ m. list_all (is_seen_in modules) m.visible) (λ m e. test_each IsNumbered (is_seen_in modules) number_below m.visible e) modules seen
@@ -69,6 +75,10 @@ module _ (modules : List TypeModule) (seen : are_seen modules ≡ true) where
       let most : 10 + count_types modules ≤ 512 = omega (arith, le) in
       each_test (λ m. AllByRecursion IsNumbered m.visible) (λ m. are_few (first_names modules) m.visible)
       (λ m h. each_test IsNumbered (λ s. nat_le (number_of (first_names modules) s) 512) (λ s lt. few (number_of (first_names modules) s) (10 + count_types modules) lt most) m.visible h) modules numbers_below
+
+-- no more than 502 types are given
+pub too_many : (modules : List TypeModule) → 512 < count_types modules + 10 → 10 + count_types modules ≤ 512 → ⊥
+too_many modules lt le = omega (arith, lt, le)
 
 -- what a name means is below a number
 module _ (size : ℕ) (ten : 10 ≤ size) where

@@ -52,13 +52,13 @@ pub record Listed : Type 0 where
   pub name : ℕ
 
 -- with the lists of an element at the end
-abbrev pub with_list : Grammar → ℕ → Listed
-with_list g element = record { grammar = record { rules = g.rules ++ list_rules element (length g.rules) ∷ [] }; name = length g.rules }
+abbrev pub with_lists_of : Grammar → ℕ → Listed
+with_lists_of g element = record { grammar = record { rules = g.rules ++ list_rules element (length g.rules) ∷ [] }; name = length g.rules }
 
 -- the name that was found, or one that is added, where there is room for it
 abbrev pub found_or_added : Grammar → ℕ → Option ℕ → Option Listed
 found_or_added g element (Some name) = Some (record { grammar = g; name = name })
-found_or_added g element None = if nat_lt (length g.rules) most_names then Some (with_list g element) else None
+found_or_added g element None = if nat_lt (length g.rules) most_names then Some (with_lists_of g element) else None
 
 -- the lists of an element: found, or added; none where a 513th name is needed
 abbrev pub list_of : Grammar → ℕ → Option Listed
