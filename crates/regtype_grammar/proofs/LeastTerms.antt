@@ -2,6 +2,7 @@
 use Rattle.std.proofs.Common.{◌≡◌, ◌↔◌, ◌⊎◌, inl, inr, ℕ, zero, suc, ◌+◌, ◌-◌, ◌<◌, ◌≤◌, ◌==◌, nat_lt, Bool, true, false, List, [], ◌∷◌, length, refl, sym, subst, arith}
 use Rattle.std.specs.Prelude.{Some, slice_get, slice_index_or}
 use Rattle.std.specs.List.{AllByRecursion}
+use Rattle.std.proofs.lemmas.Bool.{ltb-false}
 use Rattle.std.proofs.lemmas.Bool.Decides.{nat_tests}
 use Rattle.std.proofs.lemmas.List.{append_assoc}
 use Rattle.term_core.specs.declared.terms.Term.{Term}
@@ -78,7 +79,7 @@ below_test : (a b : ℕ) → nat_lt a b ≡ true → a < b
 below_test a b e = grind (arith, nat_tests, e)
 
 above_test : (a b : ℕ) → nat_lt a b ≡ false → b ≤ a
-above_test a b e = grind (arith, nat_tests, e)
+above_test a b e = ltb-false a b e
 
 placed : (n : ℕ) (ms : List TypeModule) (m : ℕ) → n ≤ m → m < n + count_types ms → IsPlaced n ms m
 placed n [] m le lt = let no : m < n + 0 = lt in absurd (omega (arith, le, no))
@@ -91,7 +92,8 @@ placed n (x ∷ ms) m le lt = by (nat_lt m (length x.types + n)) refl (λ more l
     by true e later =
         let own : m < length x.types + n = below_test m (length x.types + n) e in
         let found = item_at x.types (m - n) (omega (arith, own, le)) in
-        record { position = 0; place = m - n; one = x; declared = found.0; of_module = refl; of_types = found.1; name_is = omega (arith, le) }
+        let is : m ≡ n + (m - n) = omega (arith, le) in
+        record { position = zero; place = m - n; one = x; declared = found.0; of_module = refl; of_types = found.1; name_is = is }
     by false e later =
         let further : length x.types + n ≤ m = above_test m (length x.types + n) e in
         let rest = later further (omega (arith, whole)) in

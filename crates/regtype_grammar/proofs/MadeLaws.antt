@@ -80,7 +80,10 @@ by_made modules g e = by (nat_le (length (made_rules (made modules))) most_names
 
 -- each type has a name
 pub types_named : (modules : List TypeModule) (g : Grammar) → grammar_of modules ≡ Some g → 10 + count_types modules ≤ length g.rules
-types_named modules g e = subst (λ h. 10 + count_types modules ≤ length h.rules) (by_made modules g e) (let l = made_length modules in omega (arith, l))
+types_named modules g e =
+    let l = made_length modules in
+    let le : 10 + count_types modules ≤ length (made_rules (made modules)) = omega (arith, l) in
+    subst (λ h. 10 + count_types modules ≤ length h.rules) (by_made modules g e) le
 
 none_by : (modules : List TypeModule) → 512 < length (made_rules (made modules)) → None ≡ grammar_of modules
 none_by modules lt = ap (λ b. cond b (Some (with_rules (made_rules (made modules)))) None) (sym (many (length (made_rules (made modules))) lt))
@@ -189,7 +192,7 @@ module _ (modules : List TypeModule) (seen : are_seen modules ≡ true) where
   seen_below g e = each_map (AreKindsBelow (length g.rules)) (λ m. numbered (first_names modules) m.visible) modules (each_more (AreSeenBelow (10 + count_types modules)) (λ m. AreKindsBelow (length g.rules) (numbered (first_names modules) m.visible)) kinds modules (numbers_below modules seen))
     where
       below : (s : SeenType) → number_of (first_names modules) s < 10 + count_types modules → number_of (first_names modules) s < length g.rules
-      below s lt = let le = types_named modules g e in omega (arith, lt, le)
+      below s lt = let le : 10 + count_types modules ≤ length g.rules = types_named modules g e in omega (arith, lt, le)
 
       kinds : (m : TypeModule) → AreSeenBelow (10 + count_types modules) m → AreKindsBelow (length g.rules) (numbered (first_names modules) m.visible)
       kinds m h =

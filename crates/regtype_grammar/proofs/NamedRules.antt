@@ -92,7 +92,7 @@ module _ (n : ℕ) where
   -- the parts of a term
 
   record PartNamed (p : Part) : Type 0 where
-    rule : (k : ℕ) → IsRuleNamed (p.rule k)
+    own : (k : ℕ) → IsRuleNamed (p.rule k)
     inner : (k : ℕ) → AreRulesNamed (p.inner k)
 
   one_named : (p : Part) → PartNamed p → (k : ℕ) → AreRulesNamed (part_rules p.needs k p)
@@ -100,7 +100,7 @@ module _ (n : ℕ) where
     where
       by : (m : ℕ) → AreRulesNamed (part_rules m k p)
       by zero = tt
-      by (suc m) = (h.rule (suc k), h.inner (suc k))
+      by (suc m) = (h.own (suc k), h.inner (suc k))
 
   all_named : (ps : List Part) → AllByRecursion PartNamed ps → (k : ℕ) → AreRulesNamed (all_rules k ps)
   all_named [] h k = tt
@@ -108,14 +108,14 @@ module _ (n : ℕ) where
 
   part_named : (f : ℕ → ℕ) (t : Term) → has_names n t ≡ true → PartNamed (part_of f t)
   part_named f = ind_terms (λ t. has_names n t ≡ true → PartNamed (part_of f t))
-      (λ v e. subst PartNamed (sym (fold-Var Part (part_step f) v)) (record { rule = λ k. tt; inner = λ k. tt }))
-      (λ i e. subst PartNamed (sym (fold-Int Part (part_step f) i)) (record { rule = λ k. tt; inner = λ k. tt }))
-      (λ a e. subst PartNamed (sym (fold-Atom Part (part_step f) a)) (record { rule = λ k. less a n (sym (fold-Atom Bool (has_names_step n) a) ∙ e); inner = λ k. tt }))
+      (λ v e. subst PartNamed (sym (fold-Var Part (part_step f) v)) (record { own = λ k. tt; inner = λ k. tt }))
+      (λ i e. subst PartNamed (sym (fold-Int Part (part_step f) i)) (record { own = λ k. tt; inner = λ k. tt }))
+      (λ a e. subst PartNamed (sym (fold-Atom Part (part_step f) a)) (record { own = λ k. less a n (sym (fold-Atom Bool (has_names_step n) a) ∙ e); inner = λ k. tt }))
       (λ g ts h e. subst PartNamed (sym (fold-Node Part (part_step f) g ts)) (compound_named f g ts h (node_named n g ts e)))
     where
       compound_named : (f : ℕ → ℕ) (g : ℕ) (ts : List Term) → AllByRecursion (λ t. has_names n t ≡ true → PartNamed (part_of f t)) ts → NodeNamed n g ts → PartNamed (part_step f (layer.Node g (map (part_of f) ts)))
       compound_named f g ts h named = record {
-        rule = λ k. named.name;
+        own = λ k. named.name;
         inner = λ k. all_named (map (part_of f) ts) (each_map PartNamed (part_of f) ts (both_each n (λ t. PartNamed (part_of f t)) ts h named.parts)) k;
       }
 
@@ -157,7 +157,7 @@ module _ (n : ℕ) where
           let part = part_named (type_of l.types) c.argument e in
           let inner = (part_of (type_of l.types) c.argument).inner next in
           record {
-            rules = each_append IsRuleNamed r.rules ((part_of (type_of l.types) c.argument).rule next ∷ []) h.rules (part.rule next, tt);
+            rules = each_append IsRuleNamed r.rules ((part_of (type_of l.types) c.argument).rule next ∷ []) h.rules (part.own next, tt);
             further = each_append AreRulesNamed r.further (map single inner ++ l.added) h.further
                 (each_append AreRulesNamed (map single inner) l.added (singles_named inner (part.inner next)) (literals_named (next + (names_needed c.argument - 1)) (no_types r.known) c.literals tt));
           }
@@ -231,10 +231,10 @@ module _ (program : Program) where
 
   module _ (fixed : 75 ≤ names) where
     nil_below : NIL < names
-    nil_below = omega (arith, fixed)
+    nil_below = let le : 75 ≤ length program.names = fixed in let lt : 0 < length program.names = omega (arith, le) in lt
 
     cell_below : CELL < names
-    cell_below = omega (arith, fixed)
+    cell_below = let le : 75 ≤ length program.names = fixed in let lt : 1 < length program.names = omega (arith, le) in lt
 
     types_give : (modules : List TypeModule) → AllByRecursion (AreTypesInRange names) modules → list_all (list_all (is_named_rule program)) (made_rules (made modules)) ≡ true
     types_give modules range = named_test (made_rules (made modules)) (made_named names nil_below cell_below modules range)

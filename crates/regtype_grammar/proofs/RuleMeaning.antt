@@ -17,7 +17,7 @@ SomeOf P (x ∷ xs) = P x ⊎ SomeOf P xs
 some_at : {A : Type 0} (P : A → Type 0) (xs : List A) (x : A) (k : ℕ) → k < length xs → slice_index_or xs k x ≡ x → P x → SomeOf P xs
 some_at P [] x k lt e p = let no : k < 0 = lt in absurd (omega (arith, no))
 some_at P (y ∷ ys) x zero lt e p = inl (subst P (sym e) p)
-some_at P (y ∷ ys) x (suc k) lt e p = let more : suc k < suc (length ys) = lt in inr (some_at P ys x k (omega (arith, more)) e p)
+some_at P (y ∷ ys) x (suc k) lt e p = let less : suc k < suc (length ys) = lt in inr (some_at P ys x k (omega (arith, less)) e p)
 
 record Found {A : Type 0} (P : A → Type 0) (xs : List A) : Type 0 where
   item : A

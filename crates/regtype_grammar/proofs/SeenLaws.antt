@@ -1,8 +1,8 @@
 -- The grammar names of types that are seen.
-use Rattle.std.proofs.Common.{◌≡◌, ℕ, zero, suc, ◌+◌, ◌-◌, ◌<◌, ◌≤◌, nat_lt, nat_le, Bool, true, false, false≢true, List, [], ◌∷◌, ◌++◌, length, refl, ap, ◌∙◌, arith}
+use Rattle.std.proofs.Common.{◌≡◌, ℕ, zero, suc, ◌+◌, ◌-◌, ◌<◌, ◌≤◌, nat_lt, nat_le, Bool, true, false, List, [], ◌∷◌, ◌++◌, map, length, refl, ap, ◌∙◌, arith}
 use Rattle.std.specs.Prelude.{cond, filter, slice_get, slice_index_or}
 use Rattle.std.specs.List.{list_all, AllByRecursion}
-use Rattle.std.proofs.lemmas.Bool.{and_parts}
+use Rattle.std.proofs.lemmas.Bool.{and_parts, false≢true}
 use Rattle.std.proofs.lemmas.Bool.Decides.{nat_tests}
 use Rattle.std.proofs.lemmas.List.{append_assoc}
 use Rattle.term_core.specs.declared.fixed.TheConstants.{TERM, LIST}
@@ -40,6 +40,13 @@ numbered_turn firsts seen new one rest n all pushed is whole =
   where
     seen_as : ℕ → Seen
     seen_as k = record { name = one.name; kind = k }
+
+-- the turn of the loop over modules, with the types that each sees
+pub all_numbered_turn : (firsts : List ℕ) (seen new : List (List Seen)) (one : TypeModule) (own : List Seen) (rest : List TypeModule) (all : List (List Seen)) → new ≡ seen ++ own ∷ [] → own ≡ numbered firsts one.visible
+    → seen ++ map (λ m. numbered firsts m.visible) (one ∷ rest) ≡ all → new ++ map (λ m. numbered firsts m.visible) rest ≡ all
+all_numbered_turn firsts seen new one own rest all pushed is whole =
+    let later = map (λ m. numbered firsts m.visible) rest in
+    ap (λ xs. xs ++ later) pushed ∙ append_assoc seen (own ∷ []) later ∙ ap (λ k. seen ++ k ∷ later) is ∙ whole
 
 pub few_now : (firsts : List ℕ) (one : SeenType) (rest : List SeenType) → are_few firsts (one ∷ rest) ≡ true → number_of firsts one ≤ 512
 few_now firsts one rest e = at_most (number_of firsts one) 512 (and_parts (nat_le (number_of firsts one) 512) (are_few firsts rest) e).0

@@ -46,7 +46,7 @@ list_from element name (rules ∷ rest) = if are_list_rules element name rules t
 abbrev pub found_list : Grammar → ℕ → Option ℕ
 found_list g element = list_from element 0 g.rules
 
--- a name with a grammar
+-- a grammar, and the name of the lists that were asked for
 pub record Listed : Type 0 where
   pub grammar : Grammar
   pub name : ℕ
@@ -60,7 +60,7 @@ abbrev pub found_or_added : Grammar → ℕ → Option ℕ → Option Listed
 found_or_added g element (Some name) = Some (record { grammar = g; name = name })
 found_or_added g element None = if nat_lt (length g.rules) most_names then Some (with_lists_of g element) else None
 
--- the lists of an element: found, or added; none where a 513th name is needed
+-- the lists of an element: found, or added; none where a 513th name is needed. Any rules count, those of a regular type too
 abbrev pub list_of : Grammar → ℕ → Option Listed
 list_of g element = found_or_added g element (found_list g element)
 

@@ -23,7 +23,7 @@ abbrev pub count_types : List TypeModule → ℕ
 count_types [] = 0
 count_types (m ∷ ms) = length m.types + count_types ms
 
--- the grammar name of each module's first type: the types follow the ten basic names, module by module
+-- the grammar name of each module's first type, counted from n on: the types follow one another, module by module
 abbrev pub starts : ℕ → List TypeModule → List ℕ
 starts n [] = []
 starts n (m ∷ ms) = n ∷ starts (length m.types + n) ms
