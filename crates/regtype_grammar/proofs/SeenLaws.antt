@@ -83,9 +83,9 @@ module _ (modules : List TypeModule) (seen : are_seen modules ≡ true) where
       each_test (λ m. AllByRecursion IsNumbered m.visible) (λ m. are_few (first_names modules) m.visible)
       (λ m h. each_test IsNumbered (λ s. nat_le (number_of (first_names modules) s) 512) (λ s lt. few (number_of (first_names modules) s) (10 + count_types modules) lt most) m.visible h) modules numbers_below
 
--- no more than 502 types are given
-pub too_many : (modules : List TypeModule) → 512 < count_types modules + 10 → 10 + count_types modules ≤ 512 → ⊥
-too_many modules lt le = omega (arith, lt, le)
+-- there are more than 502 types
+pub too_many : (modules : List TypeModule) → 512 < count_types modules + 10 → 512 < 10 + count_types modules
+too_many modules lt = omega (arith, lt)
 
 -- what a name means is below a number
 module _ (size : ℕ) (ten : 10 ≤ size) where

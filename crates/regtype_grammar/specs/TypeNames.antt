@@ -5,6 +5,8 @@ use Rattle.std.specs.List.{list_all, AllByRecursion}
 use Rattle.regtype_grammar.specs.declared.modules.RegType.{RegType}
 use Rattle.regtype_grammar.specs.declared.modules.SeenType.{SeenType}
 use Rattle.regtype_grammar.specs.declared.modules.TypeModule.{TypeModule}
+use Rattle.regtype_grammar.specs.declared.modules.TypeFault.{TypeFault}
+use Rattle.regtype_grammar.specs.declared.modules.TypeFault.TheVariants.{TooManyNames, NoMemory}
 use Rattle.term_core.specs.declared.fixed.TheConstants.{TERM, LIST, GROUND}
 use Rattle.prog_data.specs.declared.grammars.Seen.{Seen}
 use Rattle.regtype_grammar.specs.declared.meanings.Meaning.{Meaning}
@@ -98,3 +100,9 @@ is_seen_in modules seen = is_within seen.name seen.position (slice_get modules s
 -- whether each type that is seen is one
 abbrev pub are_seen : List TypeModule → Bool
 are_seen modules = list_all (λ m. list_all (is_seen_in modules) m.visible) modules
+
+-- why types that are seen have no grammar names: there are more than 502 types
+abbrev pub IsSeenFault : List TypeModule → TypeFault → Type 0
+IsSeenFault modules TooManyNames = 512 < 10 + count_types modules
+IsSeenFault modules NoMemory = Unit {0}
+IsSeenFault modules other = ⊥

@@ -1,10 +1,10 @@
 // The types that are seen in a module.
-ghost use Rattle.std.specs.Prelude.{◌≡◌, ◌≤◌, ◌+◌, map, slice_index_or, true, IfOk};
+ghost use Rattle.std.specs.Prelude.{◌≡◌, ◌≤◌, map, slice_index_or, true, IfOk, IfErr};
 ghost use Rattle.std.specs.List.{list_all};
-ghost use Rattle.regtype_grammar.specs.TypeNames.{count_types, number_of, are_few, numbered, seen_types, unnumbered, has_type_name, is_within, is_seen_in, are_seen};
+ghost use Rattle.regtype_grammar.specs.TypeNames.{number_of, are_few, numbered, seen_types, unnumbered, is_seen_in, are_seen, IsSeenFault};
 
 use crate::starts::first_names;
-use crate::{SeenType, TypeModule};
+use crate::{SeenType, TypeFault, TypeModule};
 use prog_data::Seen;
 use sqlite_items::Items;
 use std::alloc::Global;
@@ -101,15 +101,17 @@ fn all_numbered(
     Ok(seen)
 }
 
-/// The types that each module sees, each by its grammar name; there are at most 502 types.
-pub fn seen_types(alloc: Global, modules: &[TypeModule]) -> Result<Items<Items<Seen>>, NoMemory>
-    requires seen { are_seen modules.now ≡ true }
-    requires few { 10 + count_types modules.now ≤ 512 }
-    ensures { IfOk result (λ seen. seen ≡ seen_types modules.now) }
+/// The types that each module sees, each by its grammar name, in the order of the modules.
+///
+/// # Errors
+/// That there are more types than a grammar has names for, which `grammar_of` refuses too; want of memory.
+pub fn seen_types(alloc: Global, modules: &[TypeModule]) -> Result<Items<Items<Seen>>, TypeFault>
+    requires { are_seen modules.now ≡ true }
+    ensures ok { IfOk result (λ seen. seen ≡ seen_types modules.now) }
+    ensures err { IfErr result (IsSeenFault modules.now) }
 {
     match first_names(alloc, modules)? {
-        // No more types are given.
-        None => Ok(Items::new(alloc)),
+        None => Err(TypeFault::TooManyNames),
         Some((firsts, _behind)) => {
             let seen = all_numbered(alloc, firsts.as_slice(), modules)?;
             Ok(seen)

@@ -5,16 +5,15 @@ use Rattle.regtype_grammar.specs.TypeNames.{count_types, are_few, numbered}
 use Rattle.regtype_grammar.proofs.SeenLaws.{all_few, too_many}
 use Rattle.regtype_grammar.proofs.seen.seen_types.Goals as goal
 
-pub returns-in-None : goal.returns-in-None
-returns-in-None c = absurd (too_many c.args.modules.now (MatchOption-at_none _ _ c.in-None.is c.in_ok-first_names.ensures) c.requires.few)
+pub returns-in-None-clause-err : goal.returns-in-None-clause-err
+returns-in-None-clause-err c = too_many c.args.modules.now (MatchOption-at_none _ _ c.in-None.is c.in_ok-first_names.ensures)
 
 pub all_numbered-requires : goal.all_numbered-requires
 all_numbered-requires c =
     let s = MatchOption-at_some _ _ _ c.in-Some.is c.in_ok-first_names.ensures in
-    let few : 10 + count_types c.args.modules.now ≤ 512 = c.requires.few in
-    subst (λ fs. list_all (λ m. are_few fs m.visible) c.args.modules.now ≡ true) (sym (c.as_slice.ensures ∙ s.0)) (all_few c.args.modules.now c.requires.seen (omega (arith, few)))
+    subst (λ fs. list_all (λ m. are_few fs m.visible) c.args.modules.now ≡ true) (sym (c.as_slice.ensures ∙ s.0)) (all_few c.args.modules.now c.requires (subst (λ n. n ≤ 512) s.1 s.2))
 
-pub returns-in-Some : goal.returns-in-Some
-returns-in-Some c =
+pub returns-in-Some-clause-ok : goal.returns-in-Some-clause-ok
+returns-in-Some-clause-ok c =
     let s = MatchOption-at_some _ _ _ c.in-Some.is c.in_ok-first_names.ensures in
-    c.in_ok-seen.ensures ∙ ap (λ fs. map (λ m. numbered fs m.visible) c.args.modules.now) (c.as_slice.ensures ∙ s.0)
+    c.in_ok-seen-in-Some.ensures ∙ ap (λ fs. map (λ m. numbered fs m.visible) c.args.modules.now) (c.as_slice.ensures ∙ s.0)
