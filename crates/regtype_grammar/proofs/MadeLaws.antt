@@ -68,7 +68,7 @@ abbrev with_rules : List (List Rule) → Grammar
 with_rules rules = record { rules = rules }
 
 abbrev pub made_grammar : List TypeModule → Grammar
-made_grammar modules = with_rules (made_rules (made modules))
+made_grammar modules = record { rules = made_rules (made modules) }
 
 -- the grammar that modules have is the one that is made of them
 pub by_made : (modules : List TypeModule) (g : Grammar) → grammar_of modules ≡ Some g → made_grammar modules ≡ g
