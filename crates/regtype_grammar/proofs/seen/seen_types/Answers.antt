@@ -13,7 +13,7 @@ all_numbered-requires c =
     let s = MatchOption-at_some _ _ _ c.in-Some.is c.in_ok-first_names.ensures in
     subst (λ fs. list_all (λ m. are_few fs m.visible) c.args.modules.now ≡ true) (sym (c.as_slice.ensures ∙ s.0)) (all_few c.args.modules.now c.requires (subst (λ n. n ≤ 512) s.1 s.2))
 
-pub returns-in_ok-seen-in-Some-clause-ok : goal.returns-in-Some-clause-ok
+pub returns-in_ok-seen-in-Some-clause-ok : goal.returns-in_ok-seen-in-Some-clause-ok
 returns-in_ok-seen-in-Some-clause-ok c =
     let s = MatchOption-at_some _ _ _ c.in-Some.is c.in_ok-first_names.ensures in
     c.in_ok-seen-in-Some.ensures ∙ ap (λ fs. map (λ m. numbered fs m.visible) c.args.modules.now) (c.as_slice.ensures ∙ s.0)
