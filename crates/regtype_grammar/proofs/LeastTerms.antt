@@ -1,5 +1,5 @@
 -- A type has the least terms that the clauses of the types give.
-use Rattle.std.proofs.Common.{◌≡◌, ◌↔◌, ◌⊎◌, inl, inr, ℕ, zero, suc, ◌+◌, ◌-◌, ◌<◌, ◌≤◌, ◌==◌, nat_lt, Bool, true, false, List, [], ◌∷◌, ◌++◌, length, refl, sym, subst, arith}
+use Rattle.std.proofs.Common.{◌≡◌, ◌↔◌, inl, inr, ℕ, zero, suc, ◌+◌, ◌-◌, ◌<◌, ◌≤◌, ◌==◌, nat_lt, Bool, true, false, List, [], ◌∷◌, ◌++◌, length, refl, sym, subst, arith}
 use Rattle.std.specs.Prelude.{Some, slice_get, slice_index_or}
 use Rattle.std.specs.List.{AllByRecursion}
 use Rattle.std.proofs.lemmas.Bool.{ltb-false}
@@ -16,9 +16,9 @@ use Rattle.regtype_grammar.specs.declared.meanings.Meaning.{Meaning}
 use Rattle.regtype_grammar.specs.declared.modules.RegType.{RegType}
 use Rattle.regtype_grammar.specs.declared.modules.TypeModule.{TypeModule}
 use Rattle.regtype_grammar.specs.TypeNames.{count_types, starts, first_names, numbered, meaning, are_seen}
-use Rattle.regtype_grammar.specs.Grammars.{number, made, grammar_of}
+use Rattle.regtype_grammar.specs.Grammars.{number, made}
 use Rattle.regtype_grammar.specs.ListTerms.{IsListOf, empty, cell}
-use Rattle.regtype_grammar.specs.TypeTerms.{IsOfType, IsAsSaid, Chosen, MayStand, IsGivenBy, IsGiven, IsDeclared, GivenWithin, Given, TypesHaveLeastTerms}
+use Rattle.regtype_grammar.specs.TypeTerms.{IsOfType, IsAsSaid, Chosen, MayStand, IsGivenBy, IsGiven, GivenWithin, Given, TypesHaveLeastTerms}
 use Rattle.regtype_grammar.proofs.MadeLaws.{basic_rules_below, meant_each, made_grammar, by_made}
 use Rattle.regtype_grammar.proofs.OldNames.{names_keep}
 use Rattle.regtype_grammar.proofs.PartMeaning.{shape_more}

@@ -1,5 +1,5 @@
 -- The atoms and functors in the rules of a grammar are names.
-use Rattle.std.proofs.Common.{◌≡◌, ℕ, zero, suc, ◌+◌, ◌-◌, ◌<◌, ◌≤◌, nat_lt, Bool, true, false, List, [], ◌∷◌, ◌++◌, map, length, refl, ap, sym, ◌∙◌, subst, arith}
+use Rattle.std.proofs.Common.{◌≡◌, ℕ, zero, suc, ◌+◌, ◌-◌, ◌<◌, ◌≤◌, nat_lt, Bool, true, false, List, [], ◌∷◌, ◌++◌, map, length, refl, sym, ◌∙◌, subst, arith}
 use Rattle.std.specs.Prelude.{cond, Option, Some, None}
 use Rattle.std.specs.List.{list_all, AllByRecursion}
 use Rattle.std.proofs.lemmas.Bool.{and_parts}
@@ -8,7 +8,6 @@ use Rattle.term_core.specs.declared.fixed.TheConstants.{NIL, CELL, NECK}
 use Rattle.term_core.specs.declared.terms.Term.{Term}
 use Rattle.term_core.specs.declared.terms.Term as term
 use Rattle.term_core.specs.declared.terms.Term.TheOpen as layer
-use Rattle.term_core.specs.Names.{fixed_names}
 use Rattle.term_core.specs.Ranges.{has_names_step, has_names}
 use Rattle.term_core.specs.Shapes.{with_mark}
 use Rattle.term_core.proofs.TermFolds.{fold-Var, fold-Int, fold-Atom, fold-Node, ind_terms}
@@ -31,7 +30,7 @@ use Rattle.regtype_grammar.specs.declared.grammars.Ruling.{Ruling}
 use Rattle.regtype_grammar.specs.Lists.{most_names, list_rules, found_list, Listed, with_lists_of, found_or_added, list_of}
 use Rattle.regtype_grammar.specs.TypeNames.{count_types, first_names, numbered, meaning}
 use Rattle.regtype_grammar.specs.TypeClauses.{TypeClause, clause_of}
-use Rattle.regtype_grammar.specs.TermRules.{names_needed, Part, part_step, part_of, part_rules, all_called, all_rules}
+use Rattle.regtype_grammar.specs.TermRules.{names_needed, Part, part_step, part_of, part_rules, all_rules}
 use Rattle.regtype_grammar.specs.Grammars.{number, type_of, list_among, bound, with_list, with_literal, with_literals, no_types, with_rule, with_clause, with_clauses, with_type, with_types, with_module, with_modules, nothing_made, made, made_rules, grammar_of}
 use Rattle.regtype_grammar.specs.RuleNames.{IsTypeInRange, AreTypesInRange, HasNamedRules, TypesGiveNamedRules, RulesStayNamed}
 use Rattle.regtype_grammar.proofs.ClauseLaws.{computed_is_written}

@@ -1,6 +1,6 @@
 -- Which terms a regular type has, by its clauses.
 -- The headline does not rest on this file.
-use Rattle.std.specs.Prelude.{◌≡◌, ◌↔◌, ◌⊎◌, ◌<◌, ℕ, zero, suc, ℤ, ◌+◌, ◌==◌, Bool, true, false, List, [], ◌∷◌, length, Some, slice_get, slice_index_or}
+use Rattle.std.specs.Prelude.{◌≡◌, ◌↔◌, ◌⊎◌, ◌<◌, ℕ, zero, suc, ℤ, ◌+◌, ◌==◌, Bool, true, false, List, [], ◌∷◌, Some, slice_get, slice_index_or}
 use Rattle.term_core.specs.declared.terms.Term.{Term}
 use Rattle.term_core.specs.declared.terms.Term as term
 use Rattle.ciao_reader.specs.declared.sentences.Sentence.{Sentence}

@@ -1,7 +1,7 @@
-use Rattle.std.proofs.Common.{◌≡◌, ◌<◌, ◌≤◌, ◌+◌, true, ap, sym, ◌∙◌, subst, map, arith}
+use Rattle.std.proofs.Common.{◌≡◌, ◌≤◌, true, ap, sym, ◌∙◌, subst, map}
 use Rattle.std.specs.List.{list_all}
 use Rattle.std.proofs.lemmas.Option.{MatchOption-at_none, MatchOption-at_some}
-use Rattle.regtype_grammar.specs.TypeNames.{count_types, are_few, numbered}
+use Rattle.regtype_grammar.specs.TypeNames.{are_few, numbered}
 use Rattle.regtype_grammar.proofs.SeenLaws.{all_few, too_many}
 use Rattle.regtype_grammar.proofs.seen.seen_types.Goals as goal
 
