@@ -11,6 +11,7 @@ mod LiteralMeaning
 mod MadeLaws
 mod NamedRules
 mod OldNames
+mod OnceLaws
 mod PartLaws
 mod PartLoops
 mod PartMeaning
