@@ -1,0 +1,41 @@
+-- What is true of all conditions, claims and entries that are given, and of all assertions that are not in trouble.
+-- The headline does not rest on this file.
+use Rattle.std.specs.Prelude.{◌≡◌, ◌↔◌, ◌<◌, ◌≤◌, ℕ, ◌+◌, Bool, true, false, List, map, length, drop, Some, None}
+use Rattle.std.specs.List.{AllByRecursion}
+use Rattle.prog_data.specs.declared.conditions.Cond.{Cond}
+use Rattle.prog_data.specs.declared.grammars.Grammar.{Grammar}
+use Rattle.prog_data.specs.declared.grammars.Seen.{Seen}
+use Rattle.prog_data.specs.declared.programs.Claim.{Claim}
+use Rattle.prog_data.specs.Conditions.{is_calls}
+use Rattle.assertion_read.specs.declared.assertions.Assertion.{Assertion}
+use Rattle.assertion_normal.specs.declared.outcomes.Normal.{Normal}
+use Rattle.assertion_normal.specs.declared.settling.Settled.{Settled}
+use Rattle.assertion_normal.specs.Conditions.{numbers_from, normal_of}
+use Rattle.assertion_normal.specs.Troubles.{trouble_of, least_trouble}
+
+-- a condition is on the predicate, at a line of the file
+pub record IsConditionOf (file pred : ℕ) (c : Cond) : Type 0 where
+  pub pred : c.pred ≡ pred
+  pub file : c.place.file ≡ file
+
+-- a claim is about the predicate, at a line of the file, and its conditions have numbers from the first one on, below the last
+pub record IsClaimOf (file pred first last : ℕ) (c : Claim) : Type 0 where
+  pub pred : c.pred ≡ pred
+  pub file : c.place.file ≡ file
+  pub numbers : AllByRecursion (λ n. (first ≤ n) × (n < last)) c.conds
+
+-- what is given is about the predicate: its conditions are numbered one after the other from the first number on, and none but the first is one on calls
+pub record IsOfPredicate (file pred first : ℕ) (normal : Normal) : Type 0 where
+  pub numbers : map (λ c. c.id) normal.conds ≡ numbers_from first (length normal.conds)
+  pub conds : AllByRecursion (IsConditionOf file pred) normal.conds
+  pub calls_first : AllByRecursion (λ c. is_calls (Some c.kind) ≡ false) (drop 1 normal.conds)
+  pub claims : AllByRecursion (IsClaimOf file pred first (length normal.conds + first)) normal.claims
+  pub entries : AllByRecursion (λ e. e.pred ≡ pred) normal.entries
+
+-- whatever assertions were looked up, what they give is so
+abbrev pub ConditionsAreNumbered : Type 0
+ConditionsAreNumbered = (file pred first : ℕ) (list : List Settled) → IsOfPredicate file pred first (normal_of file pred first list)
+
+-- there is no first trouble exactly where no assertion is in trouble
+abbrev pub TroublesAreFound : Type 0
+TroublesAreFound = (names : List (List ℕ)) (seen : List Seen) (list : List Assertion) → (least_trouble names seen list ≡ None) ↔ AllByRecursion (λ a. trouble_of names seen a ≡ None) list

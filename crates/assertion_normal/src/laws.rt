@@ -1,0 +1,12 @@
+// What is true of all that assertions give.
+ghost use Rattle.assertion_normal.specs.Laws.{ConditionsAreNumbered, TroublesAreFound};
+
+/// What assertions give is about their predicate: its conditions are numbered one after the other, and none but the first is one on calls.
+pub fn conditions_law()
+    ensures { ConditionsAreNumbered }
+{}
+
+/// There is no first trouble exactly where no assertion is in trouble.
+pub fn troubles_law()
+    ensures { TroublesAreFound }
+{}
