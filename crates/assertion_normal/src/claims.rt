@@ -100,11 +100,7 @@ fn add_entry(
 }
 
 /// What assertions give that are looked up.
-pub(crate) fn normal_of(
-    alloc: Global,
-    about: About,
-    list: &[Settled],
-) -> Result<Normal, NoMemory>
+pub(crate) fn normal_of(alloc: Global, about: About, list: &[Settled]) -> Result<Normal, NoMemory>
     ensures { IfOk result (λ normal. normal ≡ normal_of about.file about.pred about.first list.now) }
 {
     let mut conds = calls_conditions(alloc, about, list)?;

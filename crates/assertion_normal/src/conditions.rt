@@ -3,7 +3,7 @@ ghost use Rattle.std.specs.Prelude.{◌≡◌, ◌∷◌, [], ◌++◌, ◌+◌,
 ghost use Rattle.assertion_normal.specs.Conditions.{adds_disjunct, disjuncts, success_kinds, comp_kinds, own_kinds, condition, numbered, first_line, calls_conditions};
 
 use crate::settling::Settled;
-use prog_data::{Cond, CondKind, Keyword, Place, Prop};
+use prog_data::{CompProp, Cond, CondKind, Keyword, Place, Prop};
 use sqlite_items::Items;
 use std::alloc::Global;
 use term_core::{NoMemory, one};
@@ -92,14 +92,36 @@ fn add_comp(
     alloc: Global,
     about: About,
     conds: &mut Items<Cond>,
+    line: u64,
+    pre: &[Prop],
+    comp: &[CompProp],
+) -> Result<(), NoMemory>
+    ensures { OnOk result (conds.new ≡ conds.old ++ numbered about.file about.pred (length conds.old + about.first) line (comp_kinds pre.now comp.now)) }
+{
+    for property in comp {
+        let pre = Items::from_slice(alloc, pre)?;
+        add_condition(about, conds, line, CondKind::Comp(pre, *property))?;
+    }
+    Ok(())
+}
+
+// Adds those of an assertion.
+fn add_comp_of(
+    alloc: Global,
+    about: About,
+    conds: &mut Items<Cond>,
     settled: &Settled,
 ) -> Result<(), NoMemory>
     ensures { OnOk result (conds.new ≡ conds.old ++ numbered about.file about.pred (length conds.old + about.first) settled.now.line (comp_kinds settled.now.pre settled.now.comp)) }
 {
-    for property in settled.comp.as_slice() {
-        let pre = Items::from_slice(alloc, settled.pre.as_slice())?;
-        add_condition(about, conds, settled.line, CondKind::Comp(pre, *property))?;
-    }
+    add_comp(
+        alloc,
+        about,
+        conds,
+        settled.line,
+        settled.pre.as_slice(),
+        settled.comp.as_slice(),
+    )?;
     Ok(())
 }
 
@@ -113,7 +135,7 @@ fn add_both(
     ensures { OnOk result (conds.new ≡ conds.old ++ numbered about.file about.pred (length conds.old + about.first) settled.now.line (success_kinds settled.now.pre settled.now.post ++ comp_kinds settled.now.pre settled.now.comp)) }
 {
     add_success(alloc, about, conds, settled)?;
-    add_comp(alloc, about, conds, settled)?;
+    add_comp_of(alloc, about, conds, settled)?;
     Ok(())
 }
 
@@ -139,7 +161,7 @@ pub(crate) fn add_own(
                 Ok(())
             }
             Keyword::Comp => {
-                add_comp(alloc, about, conds, settled)?;
+                add_comp_of(alloc, about, conds, settled)?;
                 Ok(())
             }
         },

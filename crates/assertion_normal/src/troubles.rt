@@ -130,11 +130,7 @@ fn own_trouble(names: &Names, visible: &[Seen], assertion: &Assertion) -> Option
 }
 
 /// What is wrong with the names of an assertion, if something is: of several troubles the first, where a name that means nothing comes before one that means several types. The names of an assertion without effect are not looked up.
-pub fn assertion_trouble(
-    names: &Names,
-    visible: &[Seen],
-    assertion: &Assertion,
-) -> Option<Trouble>
+pub fn assertion_trouble(names: &Names, visible: &[Seen], assertion: &Assertion) -> Option<Trouble>
     ensures { result ≡ trouble_of names.now visible.now assertion.now }
 {
     if !counts(assertion.mark) {
@@ -183,11 +179,7 @@ fn trouble_with_line(names: &Names, visible: &[Seen], assertion: &Assertion) -> 
 }
 
 /// The trouble of assertions that comes first.
-pub(crate) fn least_trouble(
-    names: &Names,
-    visible: &[Seen],
-    list: &[Assertion],
-) -> Option<Troubled>
+pub(crate) fn least_trouble(names: &Names, visible: &[Seen], list: &[Assertion]) -> Option<Troubled>
     ensures { result ≡ least_trouble names.now visible.now list.now }
 {
     let mut least = None;
