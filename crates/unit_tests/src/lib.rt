@@ -1,4 +1,4 @@
-//! Assertions, sets of files, expansions, arithmetic and properties: what no clause says.
+//! Assertions and their conditions, sets of files, expansions, arithmetic and properties: what no clause says.
 #![tactic(auto)]
 
 #[cfg(test)]
@@ -13,6 +13,8 @@ mod functions;
 mod generated;
 #[cfg(test)]
 mod grammar_rules;
+#[cfg(test)]
+mod normal;
 #[cfg(test)]
 mod properties;
 #[cfg(test)]
