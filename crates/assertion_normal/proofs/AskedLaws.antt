@@ -20,7 +20,7 @@ use Rattle.regtype_grammar.specs.Grammars.{number}
 use Rattle.regtype_grammar.specs.Lists.{Listed, list_of}
 use Rattle.assertion_normal.specs.Properties.{mode, needs_no_type, type_name, as_type, of_type, asked}
 use Rattle.assertion_normal.specs.Ranges.{AreSeen}
-use Rattle.assertion_normal.proofs.GrownLaws.{prefix_longer, list_begins, list_named}
+use Rattle.assertion_normal.proofs.GrownLaws.{lists_longer, list_grows, list_named}
 
 -- a grammar in range has the ten basic names
 as_long : {A : Type 0} (k : ℕ) (xs : List A) → length (take k xs) ≡ k → k ≤ length xs
@@ -76,7 +76,7 @@ module _ (stay : MeaningsStayInRange) (seen : List Seen) (arity : ℕ) where
       by None j e' = absurd (none_part r e')
       by (Some l) j e' =
           subst (IsAsked g) (some_part (as_type i l) r e')
-          (and_from (nat_lt i arity) (nat_lt l.name (length l.grammar.rules)) (passes i arity lt) (passes l.name (length l.grammar.rules) (list_named g type l j)), prefix_longer g.rules l.grammar.rules (list_begins g type l j))
+          (and_from (nat_lt i arity) (nat_lt l.name (length l.grammar.rules)) (passes i arity lt) (passes l.name (length l.grammar.rules) (list_named g type l j)), lists_longer g l.grammar (list_grows g type l j))
 
   type_in : (g : Grammar) (i type : ℕ) (element : Option ℕ) (r : Grammar × Prop) → i < arity → type < length g.rules → of_type g i type element ≡ Some r → IsAsked g r
   type_in g i type None r lt own e =

@@ -3,25 +3,28 @@ use Rattle.std.proofs.Common.{◌≡◌, ℕ, suc, ◌+◌, ◌<◌, ◌≤◌, 
 use Rattle.std.specs.Prelude.{cond, Option, Some, None}
 use Rattle.std.specs.List.{AllByRecursion}
 use Rattle.std.proofs.lemmas.List.{append-nil, append_assoc, length-append}
-use Rattle.term_core.specs.Lists.{IsPrefix}
 use Rattle.term_core.proofs.OperandLaws.{none_part, some_part}
 use Rattle.prog_data.specs.declared.grammars.Rule.{Rule}
 use Rattle.prog_data.specs.declared.grammars.Grammar.{Grammar}
 use Rattle.prog_data.specs.declared.grammars.Seen.{Seen}
 use Rattle.regtype_grammar.specs.Lists.{most_names, list_rules, are_list_rules, list_from, found_list, Listed, with_list, found_or_added, list_of}
-use Rattle.assertion_normal.specs.Ranges.{AreSeen, IsGrown}
-use Rattle.assertion_normal.proofs.EachLaws.{each_more}
+use Rattle.assertion_normal.specs.Ranges.{AreSeen, AreOfLists, GrowsByLists, IsGrown}
+use Rattle.assertion_normal.proofs.EachLaws.{each_append, each_more}
 
-pub prefix_self : {A : Type 0} (xs : List A) → IsPrefix xs xs
-prefix_self xs = ([], append-nil xs)
+pub lists_self : (g : Grammar) → GrowsByLists g g
+lists_self g = record { added = []; begins = append-nil g.rules; lists = tt }
 
-prefix_then : {A : Type 0} (front middle all : List A) → IsPrefix front middle → IsPrefix middle all → IsPrefix front all
-prefix_then front middle all (rest, a) (more, b) = (rest ++ more, sym (append_assoc front rest more) ∙ ap (λ xs. xs ++ more) a ∙ b)
+lists_then : (old mid new : Grammar) → GrowsByLists old mid → GrowsByLists mid new → GrowsByLists old new
+lists_then old mid new a b = record {
+  added = a.added ++ b.added;
+  begins = sym (append_assoc old.rules a.added b.added) ∙ ap (λ rules. rules ++ b.added) a.begins ∙ b.begins;
+  lists = each_append AreOfLists a.added b.added a.lists b.lists;
+}
 
-pub prefix_longer : {A : Type 0} (front all : List A) → IsPrefix front all → length front ≤ length all
-prefix_longer front all (rest, e) =
-    let whole : length (front ++ rest) ≡ length all = ap length e in
-    let parts : length (front ++ rest) ≡ length front + length rest = length-append front rest in
+pub lists_longer : (old new : Grammar) → GrowsByLists old new → length old.rules ≤ length new.rules
+lists_longer old new grows =
+    let whole : length (old.rules ++ grows.added) ≡ length new.rules = ap length grows.begins in
+    let parts : length (old.rules ++ grows.added) ≡ length old.rules + length grows.added = length-append old.rules grows.added in
     omega (arith, whole, parts)
 
 pub seen_more : (seen : List Seen) (old new : Grammar) → length old.rules ≤ length new.rules → AreSeen old seen → AreSeen new seen
@@ -29,25 +32,27 @@ seen_more seen old new le h = each_more (λ s. s.kind < length old.rules) (λ s.
 
 module _ (seen : List Seen) where
   pub grown_self : (g : Grammar) → IsGrown seen g g
-  grown_self g = record { begins = prefix_self g.rules; range = λ h s. h }
+  grown_self g = record { grows = lists_self g; range = λ h s. h }
 
   pub grown_then : (old mid new : Grammar) → IsGrown seen old mid → IsGrown seen mid new → IsGrown seen old new
   grown_then old mid new a b = record {
-    begins = prefix_then old.rules mid.rules new.rules a.begins b.begins;
-    range = λ h s. b.range (a.range h s) (seen_more seen old mid (prefix_longer old.rules mid.rules a.begins) s);
+    grows = lists_then old mid new a.grows b.grows;
+    range = λ h s. b.range (a.range h s) (seen_more seen old mid (lists_longer old mid a.grows) s);
   }
 
--- the rules of a grammar begin those behind a list
-pub list_begins : (g : Grammar) (element : ℕ) (l : Listed) → list_of g element ≡ Some l → IsPrefix g.rules l.grammar.rules
-list_begins g element l e = by (found_list g element) e
+-- a grammar with the lists of an element
+pub list_grows : (g : Grammar) (element : ℕ) (l : Listed) → list_of g element ≡ Some l → GrowsByLists g l.grammar
+list_grows g element l e = by (found_list g element) e
   where
-    added : (b : Bool) → cond b (Some (with_list g element)) None ≡ Some l → IsPrefix g.rules l.grammar.rules
+    added : (b : Bool) → cond b (Some (with_list g element)) None ≡ Some l → GrowsByLists g l.grammar
     added false i = absurd (none_part l i)
-    added true i = subst (λ k. IsPrefix g.rules k.grammar.rules) (some_part (with_list g element) l i) (list_rules element (length g.rules) ∷ [], refl)
+    added true i =
+        subst (λ k. GrowsByLists g k.grammar) (some_part (with_list g element) l i)
+        (record { added = list_rules element (length g.rules) ∷ []; begins = refl; lists = ((element, length g.rules, refl), tt) })
 
-    by : (o : Option ℕ) → found_or_added g element o ≡ Some l → IsPrefix g.rules l.grammar.rules
+    by : (o : Option ℕ) → found_or_added g element o ≡ Some l → GrowsByLists g l.grammar
     by None i = added (nat_lt (length g.rules) most_names) i
-    by (Some name) i = subst (λ k. IsPrefix g.rules k.grammar.rules) (some_part _ l i) (prefix_self g.rules)
+    by (Some name) i = subst (λ k. GrowsByLists g k.grammar) (some_part _ l i) (lists_self g)
 
 found_below : (element at : ℕ) (rules : List (List Rule)) (name : ℕ) → list_from element at rules ≡ Some name → name < at + length rules
 found_below element at [] name e = absurd (none_part name e)

@@ -1,23 +1,34 @@
 -- Grammars, conditions and entries stay in range.
 -- The headline does not rest on this file.
-use Rattle.std.specs.Prelude.{◌≡◌, ◌<◌, ℕ, Bool, true, List, length}
+use Rattle.std.specs.Prelude.{◌≡◌, ◌<◌, ℕ, true, List, ◌++◌, length}
 use Rattle.std.specs.List.{list_all, AllByRecursion}
-use Rattle.term_core.specs.Lists.{IsPrefix}
+use Rattle.prog_data.specs.declared.grammars.Rule.{Rule}
 use Rattle.prog_data.specs.declared.grammars.Grammar.{Grammar}
 use Rattle.prog_data.specs.declared.grammars.Seen.{Seen}
 use Rattle.prog_data.specs.GrammarRange.{IsGrammar}
 use Rattle.prog_data.specs.Ranges.{is_prop_of, is_kind_of}
 use Rattle.assertion_read.specs.declared.assertions.Assertion.{Assertion}
 use Rattle.assertion_read.specs.Ranges.{IsAssertionInRange}
+use Rattle.regtype_grammar.specs.Lists.{list_rules}
 use Rattle.assertion_normal.specs.declared.outcomes.Normal.{Normal}
 
 -- the types that are seen are names of a grammar
 abbrev pub AreSeen : Grammar → List Seen → Type 0
 AreSeen g seen = AllByRecursion (λ s. s.kind < length g.rules) seen
 
--- a grammar behind a call, whatever that answers: the old rules stay in their places, and from a grammar in range, of which the types that are seen are names, it is in range
+-- the rules of the lists of an element
+abbrev pub AreOfLists : List Rule → Type 0
+AreOfLists rules = (element : ℕ) × (name : ℕ) × (rules ≡ list_rules element name)
+
+-- a grammar behind a call, whatever that answers: the old rules keep their places, and behind them come lists alone
+pub record GrowsByLists (old new : Grammar) : Type 0 where
+  pub added : List (List Rule)
+  pub begins : old.rules ++ added ≡ new.rules
+  pub lists : AllByRecursion AreOfLists added
+
+-- and from a grammar in range, of which the types that are seen are names, it is in range
 pub record IsGrown (seen : List Seen) (old new : Grammar) : Type 0 where
-  pub begins : IsPrefix old.rules new.rules
+  pub grows : GrowsByLists old new
   pub range : IsGrammar old → AreSeen old seen → IsGrammar new
 
 -- assertions in range of so many names, about a predicate of so many arguments

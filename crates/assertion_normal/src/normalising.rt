@@ -12,6 +12,7 @@ use crate::troubles::{least_trouble, told};
 use crate::{Normal, NormalFault};
 use assertion_read::Assertion;
 use prog_data::{Grammar, Seen};
+use regtype_grammar::meanings_law;
 use std::alloc::Global;
 use term_core::Names;
 
@@ -36,6 +37,7 @@ pub fn normalise(
     ensures grown { IsGrown visible.now grammar.old grammar.new }
 {
     conditions_law();
+    meanings_law();
     match least_trouble(names, visible, list) {
         Some(troubled) => Err(told(troubled)),
         None => {

@@ -1,12 +1,11 @@
 // What the properties of assertions ask.
 ghost use Rattle.std.specs.Prelude.{◌≡◌, ◌<◌, length, Some, option_map, IfOk, IfErr};
-ghost use Rattle.term_core.specs.Lists.{IsPrefix};
 ghost use Rattle.prog_data.specs.GrammarRange.{IsGrammar};
 ghost use Rattle.regtype_grammar.specs.Grammars.{number};
 ghost use Rattle.regtype_grammar.specs.Lists.{list_of};
 ghost use Rattle.assertion_normal.specs.Properties.{is_mode, mode, needs_no_type, type_name, as_type, asked, comp_named, comp_prop};
 ghost use Rattle.assertion_normal.specs.Settling.{IsNoRoom};
-ghost use Rattle.assertion_normal.specs.Ranges.{IsGrown};
+ghost use Rattle.assertion_normal.specs.Ranges.{GrowsByLists, IsGrown};
 
 use crate::NormalFault;
 use assertion_read::Written;
@@ -70,7 +69,7 @@ fn asked_list(
 ) -> Result<Prop, NormalFault>
     ensures ok { IfOk result (λ prop. option_map (as_type argument) (list_of grammar.old kind) ≡ Some (grammar.new, prop)) }
     ensures err { IfErr result (IsNoRoom (option_map (as_type argument) (list_of grammar.old kind))) }
-    ensures begins { IsPrefix grammar.old.rules grammar.new.rules }
+    ensures grows { GrowsByLists grammar.old grammar.new }
     ensures range { IsGrammar grammar.old → kind < length grammar.old.rules → IsGrammar grammar.new }
 {
     match list_of(alloc, grammar, kind) {
