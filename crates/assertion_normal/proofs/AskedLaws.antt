@@ -22,6 +22,21 @@ use Rattle.assertion_normal.specs.Properties.{mode, needs_no_type, type_name, as
 use Rattle.assertion_normal.specs.Ranges.{AreSeen}
 use Rattle.assertion_normal.proofs.GrownLaws.{lists_longer, list_grows, list_named}
 
+-- the code, by what it tests
+
+module _ (seen : List Seen) (g : Grammar) (w : Written) where
+  pub mode_asked : needs_no_type w ≡ true → asked seen g w ≡ Some (g, mode w.property w.arg)
+  mode_asked e = ap (λ b. cond b (Some (g, mode w.property w.arg)) (of_type g w.arg (number (meaning seen (type_name w))) w.element)) e
+
+  type_asked : needs_no_type w ≡ false → asked seen g w ≡ of_type g w.arg (number (meaning seen (type_name w))) w.element
+  type_asked e = ap (λ b. cond b (Some (g, mode w.property w.arg)) (of_type g w.arg (number (meaning seen (type_name w))) w.element)) e
+
+  pub plain_asked : (type : ℕ) → needs_no_type w ≡ false → type ≡ number (meaning seen (type_name w)) → w.element ≡ None → asked seen g w ≡ Some (g, Belongs w.arg type)
+  plain_asked type e is none = type_asked e ∙ ap (λ n. of_type g w.arg n w.element) (sym is) ∙ ap (of_type g w.arg type) none
+
+  pub list_asked : (type element : ℕ) → needs_no_type w ≡ false → type ≡ number (meaning seen (type_name w)) → w.element ≡ Some element → asked seen g w ≡ option_map (as_type w.arg) (list_of g type)
+  list_asked type element e is some = type_asked e ∙ ap (λ n. of_type g w.arg n w.element) (sym is) ∙ ap (of_type g w.arg type) some
+
 -- a grammar in range has the ten basic names
 as_long : {A : Type 0} (k : ℕ) (xs : List A) → length (take k xs) ≡ k → k ≤ length xs
 as_long zero xs e = omega arith

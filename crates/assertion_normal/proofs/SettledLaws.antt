@@ -12,13 +12,14 @@ use Rattle.assertion_read.specs.declared.assertions.Written.{Written}
 use Rattle.assertion_read.specs.declared.assertions.Assertion.{Assertion}
 use Rattle.assertion_read.specs.Ranges.{IsPropertyInRange, IsAssertionInRange}
 use Rattle.regtype_grammar.specs.TypeNames.{MeaningsStayInRange}
+use Rattle.assertion_normal.specs.declared.outcomes.NormalFault.{NormalFault}
 use Rattle.assertion_normal.specs.declared.settling.Settled.{Settled}
 use Rattle.assertion_normal.specs.Properties.{asked}
-use Rattle.assertion_normal.specs.Settling.{counts, counting, in_order, all_asked, post_asked, settled_with, settled, all_settled}
+use Rattle.assertion_normal.specs.Settling.{counts, counting, in_order, all_asked, post_asked, settled_with, settled, all_settled, IsNoRoom}
 use Rattle.assertion_normal.specs.Ranges.{AreSeen, AreAbout}
 use Rattle.assertion_normal.proofs.EachLaws.{each_filter, each_more}
 use Rattle.assertion_normal.proofs.AskedLaws.{prop_more, asked_in}
-use Rattle.assertion_normal.proofs.OrderLaws.{order_in}
+use Rattle.assertion_normal.proofs.OrderLaws.{no_room, order_next, order_none, order_in, counted, passed_over}
 
 -- the code
 
@@ -38,6 +39,23 @@ module _ (names : List (List ℕ)) (seen : List Seen) where
   settled_no_post old mid a pre e f =
       ap (λ o. option_and_then (λ p. option_map (λ q. (q.0, settled_with names a p.1 q.1)) (post_asked seen p.0 a.post)) o) e
       ∙ ap (λ o. option_map (λ q. (q.0, settled_with names a pre q.1)) o) f
+
+  -- one assertion more
+  module _ (old : Grammar) (so_far : List Settled) (a : Assertion) (rest : List Assertion) where
+    pub next_passed : counts a.mark ≡ false → in_order (settled names seen) (old, so_far) (counting (a ∷ rest)) ≡ in_order (settled names seen) (old, so_far) (counting rest)
+    next_passed e = ap (in_order (settled names seen) (old, so_far)) (passed_over a rest e)
+
+    pub next_settled : (new : Grammar) (one : Settled) (all : List Settled) → counts a.mark ≡ true → settled names seen old a ≡ Some (new, one) → all ≡ so_far ++ one ∷ []
+        → in_order (settled names seen) (old, so_far) (counting (a ∷ rest)) ≡ in_order (settled names seen) (new, all) (counting rest)
+    next_settled new one all e f is =
+        ap (in_order (settled names seen) (old, so_far)) (counted a rest e)
+        ∙ order_next (settled names seen) (old, so_far) a (counting rest) (new, one) f
+        ∙ ap (λ list. in_order (settled names seen) (new, list) (counting rest)) (sym is)
+
+    pub next_no_room : (fault : NormalFault) → counts a.mark ≡ true → IsNoRoom (settled names seen old a) fault → IsNoRoom (in_order (settled names seen) (old, so_far) (counting (a ∷ rest))) fault
+    next_no_room fault e h =
+        no_room (settled names seen old a) (in_order (settled names seen) (old, so_far) (counting (a ∷ rest))) fault
+        (λ none. ap (in_order (settled names seen) (old, so_far)) (counted a rest e) ∙ order_none (settled names seen) (old, so_far) a (counting rest) none) h
 
 -- ranges
 
