@@ -24,7 +24,7 @@ Run n [] = Unit {0}
 Run n (c ∷ cs) = (c.id ≡ n) × Run (suc n) cs
 
 run_append : (n : ℕ) (xs ys : List Cond) → Run n xs → Run (length xs + n) ys → Run n (xs ++ ys)
-run_append n [] ys h k = k
+run_append n [] ys h k = let same : 0 + n ≡ n = omega arith in subst (λ m. Run m ys) same k
 run_append n (x ∷ xs) ys h k = let same : suc (length xs) + n ≡ length xs + suc n = omega arith in (h.0, run_append (suc n) xs ys h.1 (subst (λ m. Run m ys) same k))
 
 run_numbers : (n : ℕ) (cs : List Cond) → Run n cs → map (λ c. c.id) cs ≡ numbers_from n (length cs)
@@ -86,7 +86,7 @@ module _ (file pred : ℕ) where
 
   numbered_of : (number line : ℕ) (kinds : List CondKind) → AllByRecursion (IsConditionOf file pred) (numbered file pred number line kinds)
   numbered_of number line [] = tt
-  numbered_of number line (kind ∷ kinds) = (record { pred = refl; file = refl }, numbered_of (suc number) line kinds)
+  numbered_of number line (kind ∷ kinds) = (record { file = refl; pred = refl }, numbered_of (suc number) line kinds)
 
   from_of : (number : ℕ) (list : List Settled) → AllByRecursion (IsConditionOf file pred) (conditions_from file pred number list)
   from_of number [] = tt
@@ -95,7 +95,7 @@ module _ (file pred : ℕ) where
 
   calls_of : (number : ℕ) (ds : List Settled) → AllByRecursion (IsConditionOf file pred) (calls_conditions file pred number ds)
   calls_of number [] = tt
-  calls_of number (s ∷ ss) = (record { pred = refl; file = refl }, tt)
+  calls_of number (s ∷ ss) = (record { file = refl; pred = refl }, tt)
 
   abbrev IsNoCalls : Cond → Type 0
   IsNoCalls c = is_calls (Some c.kind) ≡ false
@@ -132,7 +132,7 @@ module _ (file pred : ℕ) where
       → AllByRecursion (IsClaimOf file pred first last) (claims_by file pred first number count line word)
   claim_in first last number count line None lt le most = tt
   claim_in first last number count line (Some word) lt le most =
-      (record { pred = refl; file = refl; numbers = each_append (λ n. (first ≤ n) × (n < last)) (shared_numbers first (adds_disjunct (Some word))) (numbers_from number count) (shared_within first last word lt) (within first last number count le most) }, tt)
+      (record { file = refl; pred = refl; numbers = each_append (λ n. (first ≤ n) × (n < last)) (shared_numbers first (adds_disjunct (Some word))) (numbers_from number count) (shared_within first last word lt) (within first last number count le most) }, tt)
 
   claims_in : (first last number : ℕ) (list : List Settled) → AllByRecursion (λ s. adds_disjunct s.keyword ≡ true → first < last) list → first ≤ number → length (conditions_from file pred number list) + number ≤ last
       → AllByRecursion (IsClaimOf file pred first last) (claims_from file pred first number list)

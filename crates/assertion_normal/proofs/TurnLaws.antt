@@ -34,7 +34,7 @@ module _ (file pred : ℕ) where
   length_numbered number line (kind ∷ kinds) = ap suc (length_numbered (suc number) line kinds)
 
   pub numbered_append : (number line : ℕ) (xs ys : List CondKind) → numbered file pred number line (xs ++ ys) ≡ numbered file pred number line xs ++ numbered file pred (length xs + number) line ys
-  numbered_append number line [] ys = refl
+  numbered_append number line [] ys = let same : number ≡ 0 + number = omega arith in ap (λ n. numbered file pred n line ys) same
   numbered_append number line (x ∷ xs) ys =
       let same : length xs + suc number ≡ suc (length xs) + number = omega arith in
       ap (λ cs. condition file pred number line x ∷ cs) (numbered_append (suc number) line xs ys)

@@ -14,14 +14,14 @@ use Rattle.assertion_normal.specs.Conditions.{numbers_from, normal_of}
 use Rattle.assertion_normal.specs.Troubles.{trouble_of, least_trouble}
 
 -- a condition is on the predicate, at a line of the file
-pub record IsConditionOf (file pred : ℕ) (c : Cond) : Type 0 where
-  pub pred : c.pred ≡ pred
-  pub file : c.place.file ≡ file
+pub record IsConditionOf (source owner : ℕ) (c : Cond) : Type 0 where
+  pub file : c.place.file ≡ source
+  pub pred : c.pred ≡ owner
 
 -- a claim is about the predicate, at a line of the file, and its conditions have numbers from the first one on, below the last
-pub record IsClaimOf (file pred first last : ℕ) (c : Claim) : Type 0 where
-  pub pred : c.pred ≡ pred
-  pub file : c.place.file ≡ file
+pub record IsClaimOf (source owner first last : ℕ) (c : Claim) : Type 0 where
+  pub file : c.place.file ≡ source
+  pub pred : c.pred ≡ owner
   pub numbers : AllByRecursion (λ n. (first ≤ n) × (n < last)) c.conds
 
 -- what is given is about the predicate: its conditions are numbered one after the other from the first number on, and none but the first is one on calls
