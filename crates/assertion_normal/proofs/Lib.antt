@@ -7,3 +7,4 @@ mod TurnLaws
 mod ConditionRanges
 mod NumberLaws
 mod TroubleLaws
+mod GrowingRanges

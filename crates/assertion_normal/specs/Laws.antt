@@ -1,12 +1,15 @@
 -- What is true of all conditions, claims and entries that are given, and of all assertions that are not in trouble.
 -- The headline does not rest on this file.
 use Rattle.std.specs.Prelude.{◌≡◌, ◌↔◌, ◌<◌, ◌≤◌, ℕ, ◌+◌, Bool, true, false, List, map, length, drop, Some, None}
-use Rattle.std.specs.List.{AllByRecursion}
+use Rattle.std.specs.List.{list_all, AllByRecursion}
+use Rattle.prog_data.specs.declared.conditions.Prop.{Prop}
 use Rattle.prog_data.specs.declared.conditions.Cond.{Cond}
+use Rattle.prog_data.specs.declared.conditions.CondKind.{CondKind}
 use Rattle.prog_data.specs.declared.grammars.Grammar.{Grammar}
 use Rattle.prog_data.specs.declared.grammars.Seen.{Seen}
 use Rattle.prog_data.specs.declared.programs.Claim.{Claim}
 use Rattle.prog_data.specs.Conditions.{is_calls}
+use Rattle.prog_data.specs.Ranges.{is_prop_of, is_kind_of}
 use Rattle.assertion_read.specs.declared.assertions.Assertion.{Assertion}
 use Rattle.assertion_normal.specs.declared.outcomes.Normal.{Normal}
 use Rattle.assertion_normal.specs.declared.settling.Settled.{Settled}
@@ -39,3 +42,9 @@ ConditionsAreNumbered = (file pred first : ℕ) (list : List Settled) → IsOfPr
 -- there is no first trouble exactly where no assertion is in trouble
 abbrev pub TroublesAreFound : Type 0
 TroublesAreFound = (names : List (List ℕ)) (seen : List Seen) (list : List Assertion) → (least_trouble names seen list ≡ None) ↔ AllByRecursion (λ a. trouble_of names seen a ≡ None) list
+
+-- conditions and entries that ask for names of a grammar ask for names of each larger one
+abbrev pub RangesGrow : Type 0
+RangesGrow = (arity size more : ℕ) → size ≤ more →
+    ((kind : CondKind) → is_kind_of arity size kind ≡ true → is_kind_of arity more kind ≡ true)
+    × ((props : List Prop) → list_all (is_prop_of arity size) props ≡ true → list_all (is_prop_of arity more) props ≡ true)
