@@ -20,10 +20,7 @@ const ROWS: [(&str, &str); 40] = [
         ":- success p(X) => int(X).\n:- calls p(X) : int(X).\n:- pred p(X).",
         "5@2 calls( 1/0)(); 6@1 success()( 1/0); claim 1 success 6; claim 2 calls 5; claim 3 pred 5; names 10",
     ),
-    (
-        ":- pred p.",
-        "5@1 calls(); claim 1 pred 5; names 10",
-    ),
+    (":- pred p.", "5@1 calls(); claim 1 pred 5; names 10"),
     (
         ":- pred p(X) : list(X).",
         "5@1 calls( 9/0); claim 1 pred 5; names 10",
@@ -346,11 +343,7 @@ fn trouble_told(alloc: Global, text: &str) -> Result<&'static str, NoMemory> {
         Ok(source) => {
             let list = assertions_in(alloc, &names, source.sentences.as_slice())?;
             match list.as_slice() {
-                [one] => Ok(trouble_text(assertion_trouble(
-                    &names,
-                    visible.as_slice(),
-                    one,
-                ))),
+                [one] => Ok(trouble_text(assertion_trouble(&names, visible.as_slice(), one))),
                 _ => Ok("sentences"),
             }
         }
