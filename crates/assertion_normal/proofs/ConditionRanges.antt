@@ -1,5 +1,5 @@
 -- Conditions and entries in range.
-use Rattle.std.proofs.Common.{◌≡◌, ℕ, suc, ◌+◌, ◌≤◌, Bool, true, List, [], ◌∷◌, ◌++◌, map, length, refl, ap, subst, arith}
+use Rattle.std.proofs.Common.{◌≡◌, ℕ, suc, ◌+◌, true, List, [], ◌∷◌, map, length, refl, subst, arith}
 use Rattle.std.specs.Prelude.{Option, Some, None, option_map}
 use Rattle.std.specs.List.{list_all, AllByRecursion}
 use Rattle.std.proofs.lemmas.Bool.{and_from}
@@ -7,8 +7,7 @@ use Rattle.term_core.proofs.OperandLaws.{none_part, some_part}
 use Rattle.prog_data.specs.declared.conditions.Prop.{Prop}
 use Rattle.prog_data.specs.declared.conditions.Cond.{Cond}
 use Rattle.prog_data.specs.declared.conditions.CondKind.{CondKind}
-use Rattle.prog_data.specs.declared.conditions.CondKind.TheVariants.{Calls, Success, Comp}
-use Rattle.prog_data.specs.declared.programs.Entry.{Entry}
+use Rattle.prog_data.specs.declared.conditions.CondKind.TheVariants.{Comp}
 use Rattle.prog_data.specs.declared.programs.Keyword.{Keyword}
 use Rattle.prog_data.specs.declared.programs.Keyword.TheVariants as keyword
 use Rattle.prog_data.specs.declared.grammars.Grammar.{Grammar}

@@ -6,15 +6,13 @@ use Rattle.std.proofs.lemmas.List.{length-append}
 use Rattle.prog_data.specs.declared.conditions.Prop.{Prop}
 use Rattle.prog_data.specs.declared.conditions.Cond.{Cond}
 use Rattle.prog_data.specs.declared.conditions.CondKind.{CondKind}
-use Rattle.prog_data.specs.declared.conditions.CondKind.TheVariants.{Calls, Success, Comp}
-use Rattle.prog_data.specs.declared.programs.Claim.{Claim}
-use Rattle.prog_data.specs.declared.programs.Entry.{Entry}
+use Rattle.prog_data.specs.declared.conditions.CondKind.TheVariants.{Comp}
 use Rattle.prog_data.specs.declared.programs.Keyword.{Keyword}
 use Rattle.prog_data.specs.declared.programs.Keyword.TheVariants as keyword
 use Rattle.prog_data.specs.Conditions.{is_calls}
 use Rattle.assertion_normal.specs.declared.settling.Settled.{Settled}
-use Rattle.assertion_normal.specs.Conditions.{adds_disjunct, disjuncts, success_kinds, comp_kinds, own_kinds_by, own_kinds, numbers_from, shared_numbers, numbered, calls_conditions, conditions_from, behind_calls, conditions_of, claim_at, claims_by, claims_from, claims_of, entries_by, entries_of, normal_of}
-use Rattle.assertion_normal.specs.Laws.{IsConditionOf, IsClaimOf, IsOfPredicate, ConditionsAreNumbered}
+use Rattle.assertion_normal.specs.Conditions.{adds_disjunct, disjuncts, success_kinds, comp_kinds, own_kinds_by, own_kinds, numbers_from, shared_numbers, numbered, calls_conditions, conditions_from, behind_calls, claims_by, claims_from, entries_by, entries_of}
+use Rattle.assertion_normal.specs.Laws.{IsConditionOf, IsClaimOf, ConditionsAreNumbered}
 use Rattle.assertion_normal.proofs.EachLaws.{each_append, each_map, each_of, each_more}
 use Rattle.assertion_normal.proofs.TurnLaws.{length_numbered}
 

@@ -1,20 +1,19 @@
 -- There is a first trouble exactly where an assertion is in trouble; what is told of it.
 use Rattle.std.proofs.Common.{◌≡◌, ℕ, Bool, true, false, List, [], ◌∷◌, map, refl, ap, sym, ◌∙◌}
-use Rattle.std.specs.Prelude.{◌↔◌, cond, Option, Some, None, option_map}
+use Rattle.std.specs.Prelude.{cond, Option, Some, None, option_map}
 use Rattle.std.specs.List.{AllByRecursion}
-use Rattle.term_core.proofs.OperandLaws.{none_part, some_part}
+use Rattle.term_core.proofs.OperandLaws.{none_part}
 use Rattle.prog_data.specs.declared.grammars.Grammar.{Grammar}
 use Rattle.prog_data.specs.declared.grammars.Seen.{Seen}
 use Rattle.assertion_read.specs.declared.assertions.Assertion.{Assertion}
 use Rattle.assertion_normal.specs.declared.outcomes.NormalFault.{NormalFault}
 use Rattle.assertion_normal.specs.declared.outcomes.NormalFault.TheVariants.{UnknownProperty, Ambiguous, TooManyNames, NoMemory}
-use Rattle.assertion_normal.specs.declared.settling.Settled.{Settled}
 use Rattle.assertion_normal.specs.declared.troubles.Trouble.{Trouble}
 use Rattle.assertion_normal.specs.declared.troubles.Trouble.TheVariants as what
 use Rattle.assertion_normal.specs.declared.troubles.Troubled.{Troubled}
 use Rattle.assertion_normal.specs.Settling.{IsNoRoom, all_settled}
 use Rattle.assertion_normal.specs.Troubles.{trouble_of, at_line, is_before, sooner, least_from, troubled, least_trouble, told_at, told}
-use Rattle.assertion_normal.specs.Normals.{given, normalised, IsNormalFault}
+use Rattle.assertion_normal.specs.Normals.{given, IsNormalFault}
 use Rattle.assertion_normal.specs.Laws.{TroublesAreFound}
 
 -- the first of troubles is none exactly where all are none

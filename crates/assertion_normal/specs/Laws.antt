@@ -1,11 +1,10 @@
 -- What is true of all conditions, claims and entries that are given, and of all assertions that are not in trouble.
 -- The headline does not rest on this file.
-use Rattle.std.specs.Prelude.{◌≡◌, ◌↔◌, ◌<◌, ◌≤◌, ℕ, ◌+◌, Bool, true, false, List, map, length, drop, Some, None}
+use Rattle.std.specs.Prelude.{◌≡◌, ◌↔◌, ◌<◌, ◌≤◌, ℕ, ◌+◌, true, false, List, map, length, drop, Some, None}
 use Rattle.std.specs.List.{list_all, AllByRecursion}
 use Rattle.prog_data.specs.declared.conditions.Prop.{Prop}
 use Rattle.prog_data.specs.declared.conditions.Cond.{Cond}
 use Rattle.prog_data.specs.declared.conditions.CondKind.{CondKind}
-use Rattle.prog_data.specs.declared.grammars.Grammar.{Grammar}
 use Rattle.prog_data.specs.declared.grammars.Seen.{Seen}
 use Rattle.prog_data.specs.declared.programs.Claim.{Claim}
 use Rattle.prog_data.specs.Conditions.{is_calls}

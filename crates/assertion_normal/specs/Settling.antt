@@ -10,7 +10,7 @@ use Rattle.prog_data.specs.declared.programs.Keyword.TheVariants as keyword
 use Rattle.assertion_read.specs.declared.assertions.Word.{Word}
 use Rattle.assertion_read.specs.declared.assertions.Word.TheVariants.{Pred, Calls, Success, Comp, Entry}
 use Rattle.assertion_read.specs.declared.assertions.Mark.{Mark}
-use Rattle.assertion_read.specs.declared.assertions.Mark.TheVariants.{Check, Trust, True, Checked, False}
+use Rattle.assertion_read.specs.declared.assertions.Mark.TheVariants.{Check, Trust}
 use Rattle.assertion_read.specs.declared.assertions.Written.{Written}
 use Rattle.assertion_read.specs.declared.assertions.Assertion.{Assertion}
 use Rattle.assertion_normal.specs.declared.outcomes.NormalFault.{NormalFault}

@@ -1,4 +1,4 @@
-use Rattle.std.proofs.Common.{◌≡◌, ◌+◌, ◌++◌, drop, length, ap, sym, ◌∙◌}
+use Rattle.std.proofs.Common.{◌+◌, ◌++◌, drop, length, ap, sym, ◌∙◌}
 use Rattle.term_core.proofs.Turns.{turn}
 use Rattle.assertion_normal.specs.Conditions.{conditions_from, claims_from, entries_of}
 use Rattle.assertion_normal.proofs.TurnLaws.{conditions_turn, claims_turn, entries_turn}

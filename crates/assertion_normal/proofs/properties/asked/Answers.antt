@@ -1,13 +1,9 @@
-use Rattle.std.proofs.Common.{◌≡◌, ◌<◌, length, rules, false, ap, sym, ◌∙◌, subst}
-use Rattle.std.specs.Prelude.{Option, IfErr}
-use Rattle.prog_data.specs.declared.conditions.Prop.{Prop}
-use Rattle.prog_data.specs.declared.grammars.Grammar.{Grammar}
-use Rattle.prog_data.specs.GrammarRange.{IsGrammar}
+use Rattle.std.proofs.Common.{◌<◌, length, rules, ap, sym, ◌∙◌, subst}
+use Rattle.std.specs.Prelude.{IfErr}
 use Rattle.regtype_grammar.specs.TypeNames.{meaning}
 use Rattle.regtype_grammar.specs.Grammars.{number}
-use Rattle.assertion_normal.specs.Properties.{needs_no_type, type_name}
+use Rattle.assertion_normal.specs.Properties.{type_name}
 use Rattle.assertion_normal.specs.Settling.{IsNoRoom}
-use Rattle.assertion_normal.specs.Ranges.{AreSeen}
 use Rattle.assertion_normal.proofs.AskedLaws.{list_asked, ten_names, number_below}
 use Rattle.assertion_normal.proofs.properties.asked.Goals as goal
 

@@ -1,8 +1,7 @@
-use Rattle.std.proofs.Common.{◌+◌, drop, ap, sym, ◌∙◌, subst}
-use Rattle.std.specs.Prelude.{Err, IfErr}
+use Rattle.std.proofs.Common.{◌+◌, drop, sym, ◌∙◌, subst}
 use Rattle.std.proofs.lemmas.Result.{err_from_is_err_and}
 use Rattle.term_core.proofs.Turns.{turn}
-use Rattle.assertion_normal.specs.Settling.{counting, in_order, settled, all_settled, IsNoRoom}
+use Rattle.assertion_normal.specs.Settling.{counting, in_order, settled, IsNoRoom}
 use Rattle.assertion_normal.proofs.GrownLaws.{grown_then}
 use Rattle.assertion_normal.proofs.settling.all_settled.Goals as goal
 
