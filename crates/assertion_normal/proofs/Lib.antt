@@ -8,3 +8,4 @@ mod ConditionRanges
 mod NumberLaws
 mod TroubleLaws
 mod GrowingRanges
+mod FirstTroubles

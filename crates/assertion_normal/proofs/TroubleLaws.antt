@@ -15,6 +15,7 @@ use Rattle.assertion_normal.specs.Settling.{IsNoRoom, all_settled}
 use Rattle.assertion_normal.specs.Troubles.{trouble_of, at_line, is_before, sooner, least_from, troubled, least_trouble, told_at, told}
 use Rattle.assertion_normal.specs.Normals.{given, IsNormalFault}
 use Rattle.assertion_normal.specs.Laws.{TroublesAreFound}
+use Rattle.assertion_normal.proofs.FirstTroubles.{first_is}
 
 -- the first of troubles is none exactly where all are none
 
@@ -52,8 +53,10 @@ module _ (names : List (List ℕ)) (seen : List Seen) where
   all_untroubled (a ∷ as') h = (ap (option_map (at_line a.line)) h.0, all_untroubled as' h.1)
 
 pub troubles_found : TroublesAreFound
-troubles_found names seen list =
-    ((λ e. each_untroubled names seen list (from_none None (map (troubled names seen) list) e).1), (λ h. to_none (map (troubled names seen) list) (all_untroubled names seen list h)))
+troubles_found = record {
+  none = λ names seen list. ((λ e. each_untroubled names seen list (from_none None (map (troubled names seen) list) e).1), (λ h. to_none (map (troubled names seen) list) (all_untroubled names seen list h)));
+  first = λ names seen list t e. first_is names seen t list e;
+}
 
 -- what is told
 

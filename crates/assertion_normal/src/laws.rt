@@ -6,7 +6,7 @@ pub fn conditions_law()
     ensures { ConditionsAreNumbered }
 {}
 
-/// There is no first trouble exactly where no assertion is in trouble.
+/// There is no first trouble exactly where no assertion is in trouble; where there is one, it is that of an assertion, and no other comes before it.
 pub fn troubles_law()
     ensures { TroublesAreFound }
 {}
