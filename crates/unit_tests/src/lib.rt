@@ -1,4 +1,4 @@
-//! Assertions, sets of files, expansions, arithmetic and properties: what no clause says.
+//! Assertions and their conditions, sets of files, expansions, arithmetic and properties: what no clause says.
 #![tactic(auto)]
 
 #[cfg(test)]
@@ -15,6 +15,8 @@ mod generated;
 mod grammar_rules;
 #[cfg(test)]
 mod membership;
+#[cfg(test)]
+mod normal;
 #[cfg(test)]
 mod properties;
 #[cfg(test)]

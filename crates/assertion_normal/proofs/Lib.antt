@@ -1,0 +1,11 @@
+mod GrownLaws
+mod OrderLaws
+mod EachLaws
+mod AskedLaws
+mod SettledLaws
+mod TurnLaws
+mod ConditionRanges
+mod NumberLaws
+mod TroubleLaws
+mod GrowingRanges
+mod FirstTroubles
