@@ -1,0 +1,68 @@
+-- How a table grows towards the least closed one.
+-- The headline does not rest on this file.
+use Rattle.std.specs.Prelude.{ℕ, zero, suc, ◌==◌, Bool, true, false, ◌||◌, List, [], ◌∷◌, map, replicate, Option, None, Some, Contains}
+use Rattle.std.specs.List.{AllByRecursion}
+use Rattle.prog_data.specs.declared.goals.Goal.{Goal}
+use Rattle.prog_data.specs.declared.goals.Goal.TheOpen.{Goal-F, Call, Conj, Disj, IfElse, Not}
+use Rattle.prog_data.specs.declared.goals.Goal.TheFolds.{fold-Goal}
+use Rattle.prog_data.specs.declared.programs.Clause.{Clause}
+use Rattle.prog_data.specs.declared.programs.Program.{Program}
+use Rattle.prog_data.specs.Goals.{pred_of}
+use Rattle.prog_data.specs.Values.{TypeValue}
+use Rattle.name_order.specs.Relations.{order}
+use Rattle.goal_transfer.specs.Transfer.{ReachedCall}
+use Rattle.goal_transfer.specs.Conditions.{join_each}
+use Rattle.goal_transfer.specs.Tables.{Facts, facts_of, Closed, IsReached, HasExit, TableLeq, clause_effect}
+
+-- none of each argument
+abbrev pub nones : ℕ → List TypeValue
+nones arity = replicate arity None
+
+-- a row that is not reached
+abbrev pub unreached : ℕ → Facts
+unreached arity = record { reached = false; entry = nones arity; exits = false; exit = nones arity }
+
+-- nothing is reached
+abbrev pub bottom : Program → List Facts
+bottom program = map (λ p. unreached p.arity) program.preds
+
+-- a row in its place
+abbrev pub with_row : List Facts → ℕ → Facts → List Facts
+with_row [] p r = []
+with_row (x ∷ xs) zero r = r ∷ xs
+with_row (x ∷ xs) (suc p) r = x ∷ with_row xs p r
+
+-- a call, and an exit, joined into a row
+abbrev pub called_row : List TypeValue → Facts → Facts
+called_row vs r = record r { reached = true; entry = join_each r.entry vs }
+
+abbrev pub exited_row : List TypeValue → Facts → Facts
+exited_row vs r = record r { exits = true; exit = join_each r.exit vs }
+
+abbrev pub with_call : List Facts → ReachedCall → List Facts
+with_call rows c = with_row rows c.0 (called_row c.1 (facts_of rows c.0))
+
+abbrev pub with_exit : List Facts → ℕ → Option (List TypeValue) → List Facts
+with_exit rows p None = rows
+with_exit rows p (Some vs) = with_row rows p (exited_row vs (facts_of rows p))
+
+-- within every closed table
+abbrev pub IsBelow : Program → List Facts → Type 0
+IsBelow program rows = (others : List Facts) → Closed program others → TableLeq rows others
+
+-- nothing is left to be done for a predicate
+pub record IsDone (program : Program) (rows : List Facts) (p : ℕ) : Type 0 where
+  pub calls : (clause : Clause) → Contains (pred_of program p).clauses clause → AllByRecursion (IsReached rows) (clause_effect program (order program.grammar) rows p clause).calls
+  pub exits : (clause : Clause) → Contains (pred_of program p).clauses clause → HasExit (facts_of rows p) (clause_effect program (order program.grammar) rows p clause).exit
+
+-- whether a goal calls a predicate
+abbrev pub calls_step : ℕ → Goal-F Bool → Bool
+calls_step p (Call q ts) = p == q
+calls_step p (Conj a b) = a || b
+calls_step p (Disj a b) = a || b
+calls_step p (IfElse c a b) = c || (a || b)
+calls_step p (Not a) = a
+calls_step p other = false
+
+abbrev pub calls : ℕ → Goal → Bool
+calls p = fold-Goal Bool (calls_step p)
