@@ -1,7 +1,7 @@
 -- How a table grows towards the least closed one.
 -- The headline does not rest on this file.
-use Rattle.std.specs.Prelude.{ℕ, zero, suc, ◌==◌, Bool, true, false, ◌||◌, List, [], ◌∷◌, map, replicate, Option, None, Some, Contains}
-use Rattle.std.specs.List.{AllByRecursion}
+use Rattle.std.specs.Prelude.{ℕ, zero, suc, ◌==◌, Bool, true, false, ◌||◌, List, [], ◌∷◌, map, filter, length, replicate, Option, None, Some, Contains}
+use Rattle.std.specs.List.{list_any, AllByRecursion}
 use Rattle.prog_data.specs.declared.goals.Goal.{Goal}
 use Rattle.prog_data.specs.declared.goals.Goal.TheOpen.{Goal-F, Call, Conj, Disj, IfElse, Not}
 use Rattle.prog_data.specs.declared.goals.Goal.TheFolds.{fold-Goal}
@@ -9,7 +9,7 @@ use Rattle.prog_data.specs.declared.programs.Clause.{Clause}
 use Rattle.prog_data.specs.declared.programs.Program.{Program}
 use Rattle.prog_data.specs.Goals.{pred_of}
 use Rattle.prog_data.specs.Values.{TypeValue}
-use Rattle.name_order.specs.Relations.{order}
+use Rattle.name_order.specs.Relations.{names_below, order}
 use Rattle.goal_transfer.specs.Transfer.{ReachedCall}
 use Rattle.goal_transfer.specs.Conditions.{join_each}
 use Rattle.goal_transfer.specs.Tables.{Facts, facts_of, Closed, IsReached, HasExit, TableLeq, clause_effect}
@@ -66,3 +66,7 @@ calls_step p other = false
 
 abbrev pub calls : ℕ → Goal → Bool
 calls p = fold-Goal Bool (calls_step p)
+
+-- the predicates that have a clause whose body calls this one, in order
+abbrev pub callers_of : Program → ℕ → List ℕ
+callers_of program q = filter (λ p. list_any (λ clause. calls q clause.body) (pred_of program p).clauses) (names_below (length program.preds))
