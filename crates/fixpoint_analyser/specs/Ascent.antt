@@ -32,30 +32,37 @@ with_row [] p r = []
 with_row (x ∷ xs) zero r = r ∷ xs
 with_row (x ∷ xs) (suc p) r = x ∷ with_row xs p r
 
--- a call, and an exit, joined into a row
+-- a row with the values of a call joined into its entry
 abbrev pub called_row : List TypeValue → Facts → Facts
 called_row vs r = record r { reached = true; entry = join_each r.entry vs }
 
+-- a row with the values of an exit joined into its exit
 abbrev pub exited_row : List TypeValue → Facts → Facts
 exited_row vs r = record r { exits = true; exit = join_each r.exit vs }
 
+-- a table with a call joined into its row
 abbrev pub with_call : List Facts → ReachedCall → List Facts
 with_call rows c = with_row rows c.0 (called_row c.1 (facts_of rows c.0))
 
+-- a table with the exit of a predicate, if there is one, joined into its row
 abbrev pub with_exit : List Facts → ℕ → Option (List TypeValue) → List Facts
 with_exit rows p None = rows
 with_exit rows p (Some vs) = with_row rows p (exited_row vs (facts_of rows p))
 
--- within every closed table
+-- a table that is below every closed one
 abbrev pub IsBelow : Program → List Facts → Type 0
 IsBelow program rows = (others : List Facts) → Closed program others → TableLeq rows others
 
--- nothing is left to be done for a predicate
-pub record IsDone (program : Program) (rows : List Facts) (p : ℕ) : Type 0 where
-  pub calls : (clause : Clause) → Contains (pred_of program p).clauses clause → AllByRecursion (IsReached rows) (clause_effect program (order program.grammar) rows p clause).calls
-  pub exits : (clause : Clause) → Contains (pred_of program p).clauses clause → HasExit (facts_of rows p) (clause_effect program (order program.grammar) rows p clause).exit
+-- nothing is left to be done for a clause of a predicate: the table has what it gives
+pub record IsDoneFor (program : Program) (rows : List Facts) (p : ℕ) (clause : Clause) : Type 0 where
+  pub calls : AllByRecursion (IsReached rows) (clause_effect program (order program.grammar) rows p clause).calls
+  pub exit : HasExit (facts_of rows p) (clause_effect program (order program.grammar) rows p clause).exit
 
--- whether a goal calls a predicate
+-- nothing is left to be done for a predicate
+abbrev pub IsDone : Program → List Facts → ℕ → Type 0
+IsDone program rows p = (clause : Clause) → Contains (pred_of program p).clauses clause → IsDoneFor program rows p clause
+
+-- whether a goal calls a predicate, by whether its parts do
 abbrev pub calls_step : ℕ → Goal-F Bool → Bool
 calls_step p (Call q ts) = p == q
 calls_step p (Conj a b) = a || b
@@ -64,6 +71,7 @@ calls_step p (IfElse c a b) = c || (a || b)
 calls_step p (Not a) = a
 calls_step p other = false
 
+-- whether a goal calls a predicate
 abbrev pub calls : ℕ → Goal → Bool
 calls p = fold-Goal Bool (calls_step p)
 
