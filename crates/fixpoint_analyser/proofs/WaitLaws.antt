@@ -1,12 +1,12 @@
--- Flags and a stack of what waits; how many wait.
-use Rattle.std.proofs.Common.{◌≡◌, ℕ, zero, suc, ◌+◌, ◌<◌, ◌≤◌, Bool, true, false, ◌||◌, List, [], ◌∷◌, ◌++◌, length, drop, reverse, replicate, get_or, refl, ap, sym, ◌∙◌, subst, arith}
+-- Flags and a queue of what waits; how many wait.
+use Rattle.std.proofs.Common.{◌≡◌, ℕ, zero, suc, ◌+◌, ◌<◌, ◌≤◌, Bool, true, false, ◌||◌, List, [], ◌∷◌, ◌++◌, length, drop, replicate, get_or, refl, ap, sym, ◌∙◌, subst, arith}
 use Rattle.std.proofs.lemmas.Bool.{false≢true}
 use Rattle.std.proofs.lemmas.Bool.Decides.{nat_tests}
-use Rattle.std.proofs.lemmas.List.{reverse-append, drop_more, drop_all, length-set}
+use Rattle.std.proofs.lemmas.List.{drop_more, drop_all, length-set, set_comm}
 use Rattle.std.specs.Prelude.{◌==◌, nat_lt, slice_get, slice_index_or, slice_set, Some, None}
 use Rattle.fixpoint_analyser.specs.Heights.{one}
 use Rattle.fixpoint_analyser.specs.Callers.{stands_in}
-use Rattle.fixpoint_analyser.specs.Waits.{waits, number_waiting, IsStack}
+use Rattle.fixpoint_analyser.specs.Waits.{waits, number_waiting, IsQueue}
 
 -- flags
 
@@ -72,28 +72,31 @@ waits_set flags p q lt = by_test (p == q) refl
     by_test false e =
         set_elsewhere flags p q true (λ same. let f : (p == q) ≡ true = grind (arith, nat_tests, same) in false≢true (sym e ∙ f)) ∙ or_false (waits flags q) ∙ ap (λ b. waits flags q || b) (sym e)
 
--- the stack
+-- the queue
 
-pub none_stacked : (n : ℕ) (stack : List ℕ) → stack ≡ [] → IsStack (replicate n false) (reverse stack)
-none_stacked n stack e = subst (λ ps. IsStack (replicate n false) (reverse ps)) (sym e) (λ p. none_waits n p)
+pub none_queued : (n : ℕ) (queue : List ℕ) → queue ≡ [] → IsQueue (replicate n false) queue
+none_queued n queue e = subst (IsQueue (replicate n false)) (sym e) (λ p. none_waits n p)
 
-pub pushed_stack : (flags : List Bool) (stack new : List ℕ) (p : ℕ) → slice_get flags p ≡ Some false → new ≡ stack ++ p ∷ [] → IsStack flags (reverse stack) → IsStack (slice_set flags p true) (reverse new)
-pushed_stack flags stack new p idle is kept =
-    let off : waits flags p ≡ false = waits_read flags p false (sym idle) in
-    subst (IsStack (slice_set flags p true)) (sym (ap reverse is ∙ reverse-append stack (p ∷ [])))
-    (set_there flags p true (there flags p idle), subst (λ fs. IsStack fs (reverse stack)) (sym (set_back flags p true off)) kept)
-  where
-    there : (flags : List Bool) (p : ℕ) → slice_get flags p ≡ Some false → p < length flags
-    there [] p e = cc
-    there (f ∷ fs) zero e = omega arith
-    there (f ∷ fs) (suc p) e = let lt = there fs p e in omega (arith, lt)
+there : (flags : List Bool) (p : ℕ) → slice_get flags p ≡ Some false → p < length flags
+there [] p e = cc
+there (f ∷ fs) zero e = omega arith
+there (f ∷ fs) (suc p) e = let lt = there fs p e in omega (arith, lt)
 
-pub popped_stack : (flags : List Bool) (stack new : List ℕ) (p : ℕ) → stack ≡ new ++ p ∷ [] → IsStack flags (reverse stack) → (waits flags p ≡ true) × IsStack (slice_set flags p false) (reverse new)
-popped_stack flags stack new p is kept = subst (IsStack flags) (ap reverse is ∙ reverse-append new (p ∷ [])) kept
+queue_more : (flags : List Bool) (queue : List ℕ) (p : ℕ) → waits flags p ≡ false → p < length flags → IsQueue flags queue → IsQueue (slice_set flags p true) (queue ++ p ∷ [])
+queue_more flags [] p off lt kept = (set_there flags p true lt, λ q. ap (λ fs. waits fs q) (set_back flags p true off) ∙ kept q)
+queue_more flags (q ∷ queue) p off lt kept =
+    let other : p ≡ q → ⊥ = λ same. false≢true (sym off ∙ ap (waits flags) same ∙ kept.0) in
+    let rest = queue_more (slice_set flags q false) queue p (set_elsewhere flags q p false (λ same. other (sym same)) ∙ off) (subst (λ n. p < n) (sym (length-set flags q false)) lt) kept.1 in
+    (set_elsewhere flags p q true other ∙ kept.0, subst (λ fs. IsQueue fs (queue ++ p ∷ [])) (set_comm flags q p false true (λ same. other (sym same))) rest)
 
-pub empty_stack : (flags : List Bool) (stack : List ℕ) → length stack ≡ 0 → IsStack flags (reverse stack) → (p : ℕ) → waits flags p ≡ false
-empty_stack flags [] e kept = kept
-empty_stack flags (q ∷ stack) e kept = cc
+pub pushed_queue : (flags : List Bool) (queue new : List ℕ) (p : ℕ) → slice_get flags p ≡ Some false → new ≡ queue ++ p ∷ [] → IsQueue flags queue → IsQueue (slice_set flags p true) new
+pushed_queue flags queue new p idle is kept = subst (IsQueue (slice_set flags p true)) (sym is) (queue_more flags queue p (waits_read flags p false (sym idle)) (there flags p idle) kept)
+
+pub popped_queue : (flags : List Bool) (queue new : List ℕ) (p : ℕ) → queue ≡ p ∷ new → IsQueue flags queue → (waits flags p ≡ true) × IsQueue (slice_set flags p false) new
+popped_queue flags queue new p is kept = subst (IsQueue flags) is kept
+
+pub empty_queue : (flags : List Bool) (queue : List ℕ) → queue ≡ [] → IsQueue flags queue → (p : ℕ) → waits flags p ≡ false
+empty_queue flags queue is kept = subst (IsQueue flags) is kept
 
 -- several
 
