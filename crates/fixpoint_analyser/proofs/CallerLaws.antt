@@ -2,7 +2,7 @@
 use Rattle.std.proofs.Common.{◌≡◌, ℕ, zero, suc, ◌+◌, ◌-◌, ◌<◌, ◌≤◌, Bool, true, false, cond, ◌||◌, List, [], ◌∷◌, ◌++◌, length, take, get_or, refl, ap, sym, ◌∙◌, subst, arith}
 use Rattle.std.proofs.lemmas.Bool.{false≢true, or_parts, or_right, false_from_ne_true}
 use Rattle.std.proofs.lemmas.Bool.Decides.{nat_tests}
-use Rattle.std.proofs.lemmas.List.{append-nil}
+use Rattle.std.proofs.lemmas.List.{append-nil, get_or-set_same, get_or-set_other, length-set, set-get_or, get_or_read}
 use Rattle.std.proofs.lemmas.List.Elements.{filter-append}
 use Rattle.std.proofs.lemmas.List.Folds.{list_any_more}
 use Rattle.std.specs.Prelude.{◌==◌, slice_index_or, slice_set, filter, Contains}
@@ -80,55 +80,28 @@ added_same a b n first second same h = record { count = h.count; each = λ q lt.
 pub added_past : (lists : List (List ℕ)) (called n : ℕ) → length lists ≤ called → HasAdded lists lists n (λ q. called == q)
 added_past lists called n le = added_none lists n (λ q. called == q) (λ q lt. grind (arith, nat_tests, le, lt))
 
-set_same : (lists : List (List ℕ)) (q : ℕ) (x : List ℕ) → q < length lists → slice_index_or (slice_set lists q x) q [] ≡ x
-set_same [] q x lt = absurd (omega (arith, lt))
-set_same (y ∷ ys) zero x lt = refl
-set_same (y ∷ ys) (suc q) x lt = set_same ys q x (omega (arith, lt))
-
-set_other : (lists : List (List ℕ)) (p q : ℕ) (x : List ℕ) → (p ≡ q → ⊥) → slice_index_or (slice_set lists p x) q [] ≡ slice_index_or lists q []
-set_other [] p q x other = refl
-set_other (y ∷ ys) zero zero x other = absurd (other refl)
-set_other (y ∷ ys) zero (suc q) x other = refl
-set_other (y ∷ ys) (suc p) zero x other = refl
-set_other (y ∷ ys) (suc p) (suc q) x other = set_other ys p q x (λ e. other (ap suc e))
-
-set_count : (lists : List (List ℕ)) (q : ℕ) (x : List ℕ) → length (slice_set lists q x) ≡ length lists
-set_count [] q x = refl
-set_count (y ∷ ys) zero x = refl
-set_count (y ∷ ys) (suc q) x = ap suc (set_count ys q x)
-
-read_at : (lists : List (List ℕ)) (q : ℕ) (x : List ℕ) → q < length lists → x ≡ get_or lists q x → slice_index_or lists q [] ≡ x
-read_at [] q x lt read = absurd (omega (arith, lt))
-read_at (y ∷ ys) zero x lt read = sym read
-read_at (y ∷ ys) (suc q) x lt read = read_at ys q x (omega (arith, lt)) read
-
 added_there : (lists : List (List ℕ)) (called n : ℕ) → called < length lists → HasAdded lists (slice_set lists called (ending_in (slice_index_or lists called []) n)) n (λ q. called == q)
-added_there lists called n lt = record { count = set_count lists called (ending_in (slice_index_or lists called []) n); each = λ q in_lists. by_test q (called == q) refl }
+added_there lists called n lt = record { count = length-set lists called (ending_in (slice_index_or lists called []) n); each = λ q in_lists. by_test q (called == q) refl }
   where
     by_test : (q : ℕ) (b : Bool) → (called == q) ≡ b → slice_index_or (slice_set lists called (ending_in (slice_index_or lists called []) n)) q [] ≡ ending_where (called == q) (slice_index_or lists q []) n
     by_test q true e =
         let same : called ≡ q = grind (arith, nat_tests, e) in
-        subst (λ q. slice_index_or (slice_set lists called (ending_in (slice_index_or lists called []) n)) q [] ≡ ending_in (slice_index_or lists q []) n) same (set_same lists called (ending_in (slice_index_or lists called []) n) lt)
+        subst (λ q. slice_index_or (slice_set lists called (ending_in (slice_index_or lists called []) n)) q [] ≡ ending_in (slice_index_or lists q []) n) same (get_or-set_same lists called (ending_in (slice_index_or lists called []) n) [] lt)
         ∙ ap (λ b. ending_where b (slice_index_or lists q []) n) (sym e)
     by_test q false e =
-        set_other lists called q (ending_in (slice_index_or lists called []) n) (λ same. let f : (called == q) ≡ true = grind (arith, nat_tests, same) in false≢true (sym e ∙ f))
+        get_or-set_other lists called q (ending_in (slice_index_or lists called []) n) [] (λ same. let f : (called == q) ≡ true = grind (arith, nat_tests, same) in false≢true (sym e ∙ f))
         ∙ ap (λ b. ending_where b (slice_index_or lists q []) n) (sym e)
-
-set_had : (lists : List (List ℕ)) (q : ℕ) → slice_set lists q (slice_index_or lists q []) ≡ lists
-set_had [] q = refl
-set_had (y ∷ ys) zero = refl
-set_had (y ∷ ys) (suc q) = ap (λ zs. y ∷ zs) (set_had ys q)
 
 -- the list has the number already
 pub added_had : (lists : List (List ℕ)) (called n : ℕ) (x : List ℕ) → called < length lists → x ≡ get_or lists called x → ends_in x n ≡ true → HasAdded lists lists n (λ q. called == q)
 added_had lists called n x lt read e =
-    let is = read_at lists called x lt read in
-    subst (λ new. HasAdded lists new n (λ q. called == q)) (ap (slice_set lists called) (ending_had (slice_index_or lists called []) n (ap (λ ns. ends_in ns n) is ∙ e)) ∙ set_had lists called) (added_there lists called n lt)
+    let is : slice_index_or lists called [] ≡ x = sym (get_or_read lists called x lt read []) in
+    subst (λ new. HasAdded lists new n (λ q. called == q)) (ap (slice_set lists called) (ending_had (slice_index_or lists called []) n (ap (λ ns. ends_in ns n) is ∙ e)) ∙ set-get_or lists called []) (added_there lists called n lt)
 
 -- it gets it
 pub added_pushed : (lists new : List (List ℕ)) (called n : ℕ) (x y : List ℕ) → called < length lists → x ≡ get_or lists called x → ends_in x n ≡ false → y ≡ x ++ n ∷ [] → new ≡ slice_set lists called y → HasAdded lists new n (λ q. called == q)
 added_pushed lists new called n x y lt read e is_y is_new =
-    let is = read_at lists called x lt read in
+    let is : slice_index_or lists called [] ≡ x = sym (get_or_read lists called x lt read []) in
     subst (λ new. HasAdded lists new n (λ q. called == q))
     (ap (slice_set lists called) (ending_new (slice_index_or lists called []) n (ap (λ ns. ends_in ns n) is ∙ e) ∙ ap (λ ns. ns ++ n ∷ []) is ∙ sym is_y) ∙ sym is_new)
     (added_there lists called n lt)
@@ -229,11 +202,6 @@ module _ (passes : ℕ → Bool) where
           ∙ ap (λ b. filter passes (names_below k) ++ cond b (k ∷ []) []) (sym e)
       by_test false e = sym (append-nil (filter passes (names_below k))) ∙ ap (λ b. filter passes (names_below k) ++ cond b (k ∷ []) []) (sym e)
 
-pred_at : (preds : List Pred) (p : ℕ) (pred : Pred) → p < length preds → pred ≡ get_or preds p pred → slice_index_or preds p no_pred ≡ pred
-pred_at [] p pred lt read = absurd (omega (arith, lt))
-pred_at (x ∷ preds) zero pred lt read = sym read
-pred_at (x ∷ preds) (suc p) pred lt read = pred_at preds p pred (omega (arith, lt)) read
-
 pub callers_none : (preds : List Pred) (lists : List (List ℕ)) → length lists ≡ length preds → ((q : ℕ) → slice_index_or lists q [] ≡ []) → HasCallers preds 0 lists
 callers_none preds lists count empty = record { count = count; each = λ q lt. empty q }
 
@@ -243,7 +211,7 @@ callers_turn preds k old new pred clauses lt read is had added = record {
   count = added.count ∙ had.count;
   each = λ q in_preds.
       added.each q (subst (λ n. q < n) (sym had.count) in_preds)
-      ∙ ap (λ cs. ending_where (some_calls cs q) (slice_index_or old q []) k) (is ∙ ap (λ p. p.clauses) (sym (pred_at preds k pred lt read)))
+      ∙ ap (λ cs. ending_where (some_calls cs q) (slice_index_or old q []) k) (is ∙ ap (λ p. p.clauses) (get_or_read preds k pred lt read no_pred))
       ∙ ap (λ ns. ending_where (some_calls (slice_index_or preds k no_pred).clauses q) ns k) (had.each q in_preds)
       ∙ ended (λ p. some_calls (slice_index_or preds p no_pred).clauses q) k;
 }
@@ -261,3 +229,11 @@ not_calling program p q lt e clause has =
     false_from_ne_true (some_calls (pred_of program p).clauses q)
     (λ f. false≢true (sym e ∙ standing (λ p. some_calls (pred_of program p).clauses q) 0 (length program.preds) p (omega arith) (omega (arith, lt)) f)) in
     none_passes (λ clause. calls q clause.body) (pred_of program p).clauses none clause has.0 has.1 has.2
+
+-- lists that are empty
+
+pub empty_pushed : (lists : List (List ℕ)) → ((q : ℕ) → slice_index_or lists q [] ≡ []) → (q : ℕ) → slice_index_or (lists ++ [] ∷ []) q [] ≡ []
+empty_pushed [] h zero = refl
+empty_pushed [] h (suc q) = refl
+empty_pushed (x ∷ lists) h zero = h 0
+empty_pushed (x ∷ lists) h (suc q) = empty_pushed lists (λ q. h (suc q)) q

@@ -1,7 +1,7 @@
 -- Stored rows, and values that are joined in their places.
 use Rattle.std.proofs.Common.{◌≡◌, ◌↔◌, ℕ, zero, suc, ◌+◌, ◌<◌, ◌≤◌, Bool, true, false, ◌&&◌, List, [], ◌∷◌, length, map, drop, get_or, replicate, refl, ap, sym, ◌∙◌, subst, arith}
 use Rattle.std.proofs.lemmas.Bool.{false≢true, true≢false}
-use Rattle.std.proofs.lemmas.List.{drop_more, drop_all}
+use Rattle.std.proofs.lemmas.List.{drop_more, drop_all, length-map, set-get_or}
 use Rattle.std.specs.Prelude.{slice_set, slice_index_or, None, Some, IsTrue}
 use Rattle.prog_data.specs.declared.tables.Value.{Value}
 use Rattle.prog_data.specs.declared.tables.Row.{Row}
@@ -16,10 +16,6 @@ use Rattle.fixpoint_analyser.specs.Ascent.{with_row, called_row, exited_row}
 pub map-replicate : {A B : Type 0} (f : A → B) (n : ℕ) (x : A) → map f (replicate n x) ≡ replicate n (f x)
 map-replicate f zero x = refl
 map-replicate f (suc n) x = ap (λ ys. f x ∷ ys) (map-replicate f n x)
-
-map_count : {A B : Type 0} (f : A → B) (xs : List A) → length (map f xs) ≡ length xs
-map_count f [] = refl
-map_count f (x ∷ xs) = ap suc (map_count f xs)
 
 -- a test place by place
 
@@ -95,7 +91,7 @@ joined_all (suc k) (v ∷ vs) (w ∷ ws) le e = ap (λ as'. join v w ∷ as') (j
 
 pub joined_end : (k : ℕ) (old now others : List Value) → length others ≤ k → length others ≡ length old → map seen now ≡ joined_to k (map seen old) (map seen others) → map seen now ≡ join_each (map seen old) (map seen others)
 joined_end k old now others le e is =
-    is ∙ joined_all k (map seen old) (map seen others) (omega (arith, le, map_count seen others)) (map_count seen others ∙ e ∙ sym (map_count seen old))
+    is ∙ joined_all k (map seen old) (map seen others) (omega (arith, le, length-map others seen)) (length-map others seen ∙ e ∙ sym (length-map old seen))
 
 -- what says as much already
 
@@ -133,6 +129,4 @@ row_written (x ∷ rows) zero row = refl
 row_written (x ∷ rows) (suc p) row = ap (λ rs. row_seen x ∷ rs) (row_written rows p row)
 
 pub row_kept : (rows : List Row) (p : ℕ) (row : Row) → row ≡ get_or rows p row → slice_set rows p row ≡ rows
-row_kept [] p row read = refl
-row_kept (x ∷ rows) zero row read = ap (λ y. y ∷ rows) read
-row_kept (x ∷ rows) (suc p) row read = ap (λ rs. x ∷ rs) (row_kept rows p row read)
+row_kept rows p row read = ap (slice_set rows p) read ∙ set-get_or rows p row

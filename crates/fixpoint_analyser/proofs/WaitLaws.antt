@@ -2,7 +2,7 @@
 use Rattle.std.proofs.Common.{◌≡◌, ℕ, zero, suc, ◌+◌, ◌<◌, ◌≤◌, Bool, true, false, ◌||◌, List, [], ◌∷◌, ◌++◌, length, drop, replicate, get_or, refl, ap, sym, ◌∙◌, subst, arith}
 use Rattle.std.proofs.lemmas.Bool.{false≢true}
 use Rattle.std.proofs.lemmas.Bool.Decides.{nat_tests}
-use Rattle.std.proofs.lemmas.List.{drop_more, drop_all, length-set, set_comm}
+use Rattle.std.proofs.lemmas.List.{drop_more, drop_all, length-set, set_comm, get_or-set_same, get_or-set_other}
 use Rattle.std.specs.Prelude.{◌==◌, nat_lt, slice_get, slice_index_or, slice_set, Some, None}
 use Rattle.fixpoint_analyser.specs.Heights.{one}
 use Rattle.fixpoint_analyser.specs.Callers.{stands_in}
@@ -24,18 +24,6 @@ pub waits_read : (flags : List Bool) (p : ℕ) (f : Bool) → Some f ≡ slice_g
 waits_read [] p f e = cc
 waits_read (g ∷ fs) zero f e = cc
 waits_read (g ∷ fs) (suc p) f e = waits_read fs p f e
-
-set_there : (flags : List Bool) (p : ℕ) (f : Bool) → p < length flags → waits (slice_set flags p f) p ≡ f
-set_there [] p f lt = absurd (omega (arith, lt))
-set_there (g ∷ fs) zero f lt = refl
-set_there (g ∷ fs) (suc p) f lt = set_there fs p f (omega (arith, lt))
-
-set_elsewhere : (flags : List Bool) (p q : ℕ) (f : Bool) → (p ≡ q → ⊥) → waits (slice_set flags p f) q ≡ waits flags q
-set_elsewhere [] p q f other = refl
-set_elsewhere (g ∷ fs) zero zero f other = absurd (other refl)
-set_elsewhere (g ∷ fs) zero (suc q) f other = refl
-set_elsewhere (g ∷ fs) (suc p) zero f other = refl
-set_elsewhere (g ∷ fs) (suc p) (suc q) f other = set_elsewhere fs p q f (λ e. other (ap suc e))
 
 pub set_back : (flags : List Bool) (p : ℕ) (f : Bool) → waits flags p ≡ false → slice_set (slice_set flags p f) p false ≡ flags
 set_back [] p f e = refl
@@ -68,9 +56,9 @@ waits_set flags p q lt = by_test (p == q) refl
     by_test : (b : Bool) → (p == q) ≡ b → waits (slice_set flags p true) q ≡ (waits flags q || (p == q))
     by_test true e =
         let same : q ≡ p = grind (arith, nat_tests, e) in
-        ap (λ n. waits (slice_set flags p true) n) same ∙ set_there flags p true (subst (λ n. n < length flags) same lt) ∙ or_true (waits flags q) ∙ ap (λ b. waits flags q || b) (sym e)
+        ap (λ n. waits (slice_set flags p true) n) same ∙ get_or-set_same flags p true false (subst (λ n. n < length flags) same lt) ∙ or_true (waits flags q) ∙ ap (λ b. waits flags q || b) (sym e)
     by_test false e =
-        set_elsewhere flags p q true (λ same. let f : (p == q) ≡ true = grind (arith, nat_tests, same) in false≢true (sym e ∙ f)) ∙ or_false (waits flags q) ∙ ap (λ b. waits flags q || b) (sym e)
+        get_or-set_other flags p q true false (λ same. let f : (p == q) ≡ true = grind (arith, nat_tests, same) in false≢true (sym e ∙ f)) ∙ or_false (waits flags q) ∙ ap (λ b. waits flags q || b) (sym e)
 
 -- the queue
 
@@ -83,11 +71,11 @@ there (f ∷ fs) zero e = omega arith
 there (f ∷ fs) (suc p) e = let lt = there fs p e in omega (arith, lt)
 
 queue_more : (flags : List Bool) (queue : List ℕ) (p : ℕ) → waits flags p ≡ false → p < length flags → IsQueue flags queue → IsQueue (slice_set flags p true) (queue ++ p ∷ [])
-queue_more flags [] p off lt kept = (set_there flags p true lt, λ q. ap (λ fs. waits fs q) (set_back flags p true off) ∙ kept q)
+queue_more flags [] p off lt kept = (get_or-set_same flags p true false lt, λ q. ap (λ fs. waits fs q) (set_back flags p true off) ∙ kept q)
 queue_more flags (q ∷ queue) p off lt kept =
     let other : p ≡ q → ⊥ = λ same. false≢true (sym off ∙ ap (waits flags) same ∙ kept.0) in
-    let rest = queue_more (slice_set flags q false) queue p (set_elsewhere flags q p false (λ same. other (sym same)) ∙ off) (subst (λ n. p < n) (sym (length-set flags q false)) lt) kept.1 in
-    (set_elsewhere flags p q true other ∙ kept.0, subst (λ fs. IsQueue fs (queue ++ p ∷ [])) (set_comm flags q p false true (λ same. other (sym same))) rest)
+    let rest = queue_more (slice_set flags q false) queue p (get_or-set_other flags q p false false other ∙ off) (subst (λ n. p < n) (sym (length-set flags q false)) lt) kept.1 in
+    (get_or-set_other flags p q true false (λ same. other (sym same)) ∙ kept.0, subst (λ fs. IsQueue fs (queue ++ p ∷ [])) (set_comm flags q p false true (λ same. other (sym same))) rest)
 
 pub pushed_queue : (flags : List Bool) (queue new : List ℕ) (p : ℕ) → slice_get flags p ≡ Some false → new ≡ queue ++ p ∷ [] → IsQueue flags queue → IsQueue (slice_set flags p true) new
 pushed_queue flags queue new p idle is kept = subst (IsQueue (slice_set flags p true)) (sym is) (queue_more flags queue p (waits_read flags p false (sym idle)) (there flags p idle) kept)
