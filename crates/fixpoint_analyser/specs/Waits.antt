@@ -12,7 +12,7 @@ abbrev pub number_waiting : List Bool → ℕ
 number_waiting [] = 0
 number_waiting (f ∷ fs) = one f + number_waiting fs
 
--- a stack, its newest first, has each predicate that waits, once
-abbrev pub IsStack : List Bool → List ℕ → Type 0
-IsStack flags [] = (p : ℕ) → waits flags p ≡ false
-IsStack flags (p ∷ ps) = (waits flags p ≡ true) × IsStack (slice_set flags p false) ps
+-- a queue has each predicate that waits, once
+abbrev pub IsQueue : List Bool → List ℕ → Type 0
+IsQueue flags [] = (p : ℕ) → waits flags p ≡ false
+IsQueue flags (p ∷ ps) = (waits flags p ≡ true) × IsQueue (slice_set flags p false) ps

@@ -4,25 +4,26 @@ ghost use Rattle.fixpoint_analyser.specs.Callers.{stands_in};
 ghost use Rattle.fixpoint_analyser.specs.Waits.{waits};
 
 use std::alloc::Global;
+use std::collections::VecDeque;
 use std::marker::Model;
 use term_core::NoMemory;
 
-/// Which predicates wait, and a stack of them.
+/// Which predicates wait, and a queue of them.
 #[derive(Drop)]
 pub(crate) struct Waiting {
     flags: Vec<bool>,
-    stack: Vec<u64>,
+    queue: VecDeque<u64>,
 }
 
 impl Model for Waiting {
-    ghost use Rattle.std.specs.Prelude.{Bool, List, reverse};
-    ghost use Rattle.fixpoint_analyser.specs.Waits.{IsStack};
+    ghost use Rattle.std.specs.Prelude.{Bool, List};
+    ghost use Rattle.fixpoint_analyser.specs.Waits.{IsQueue};
 
     ghost Value = { List Bool };
 
     ghost view = { λ w. w.flags.items };
 
-    ghost invariant = { λ w. IsStack w.flags.items (reverse w.stack.items) };
+    ghost invariant = { λ w. IsQueue w.flags.items w.queue.items };
 }
 
 // Whether a flag is there and not set.
@@ -47,7 +48,7 @@ impl Waiting {
         let flags = vec![in alloc; false; count]?;
         Ok(Waiting {
             flags,
-            stack: Vec::new(alloc),
+            queue: VecDeque::new(alloc),
         })
     }
 
@@ -63,7 +64,7 @@ impl Waiting {
         if !is_idle(self.flags.as_slice(), pred) {
             return Ok(());
         }
-        self.stack.push(pred)?;
+        self.queue.push_back(pred)?;
         self.flags[pred as usize] = true;
         Ok(())
     }
@@ -83,12 +84,12 @@ impl Waiting {
         Ok(())
     }
 
-    /// A predicate that waited, which waits no more; none where no predicate waits.
+    /// The predicate that has waited longest, which waits no more; none where no predicate waits.
     pub(crate) fn take(&mut self) -> Option<u64>
         ensures taken { MatchOption result ((p : ℕ) → waits self.old p ≡ false) (λ p. waits self.old p ≡ true) }
         ensures left { MatchOption result (self.new ≡ self.old) (λ p. self.new ≡ slice_set self.old p false) }
     {
-        match self.stack.pop() {
+        match self.queue.pop_front() {
             None => None,
             Some(pred) => {
                 self.flags[pred as usize] = false;
