@@ -31,7 +31,7 @@ fn wake(
 ) -> Result<(), NoMemory>
     requires pred { pred < length waiting.old }
     requires callers { pred < length callers.now }
-    ensures { OnOk result (Wakes waiting.old waiting.new (λ p. (p == pred) || (exits && stands_in (slice_index_or callers.now pred []) p))) }
+    ensures { OnOk result (Wakes waiting.old waiting.new (λ p. (pred == p) || (exits && stands_in (slice_index_or callers.now pred []) p))) }
 {
     waiting.add(pred)?;
     if !exits {
