@@ -4,6 +4,7 @@ use Rattle.std.proofs.lemmas.Bool.Decides.{nat_tests}
 use Rattle.std.proofs.lemmas.Option.{none-some, same_Some}
 use Rattle.std.specs.Prelude.{◌==◌, nat_lt, slice_get, Option, None, Some, Contains, IsTrue}
 use Rattle.std.specs.List.{AllByRecursion}
+use Rattle.prog_data.specs.declared.grammars.Grammar.{Grammar}
 use Rattle.prog_data.specs.declared.programs.Clause.{Clause}
 use Rattle.prog_data.specs.declared.programs.Program.{Program}
 use Rattle.prog_data.specs.declared.tables.Value.{Value}
@@ -27,6 +28,12 @@ pub effect_read : (program : Program) (rows : List Facts) (p : ℕ) (clause : Cl
 effect_read program rows p clause exits entry e f =
     ap (λ x. effect_of (order program.grammar) clause (from_known (behind_head (order program.grammar) (narrowed_entry program (order program.grammar) p entry) clause) (run_goal (order program.grammar) x clause.body))) e
     ∙ ap (λ ws. effect_of (order program.grammar) clause (from_known (behind_head (order program.grammar) (narrowed_entry program (order program.grammar) p ws) clause) (run_goal (order program.grammar) (exits_of program (order program.grammar) rows) clause.body))) f
+
+-- the same, said of an effect and by the relations of the grammar
+pub effect_by : (program : Program) (rows : List Facts) (p : ℕ) (clause : Clause) (rel : Grammar) → rel ≡ program.grammar → (exits : Exits) (entry : List TypeValue) (effect : ClauseEffect) → exits ≡ exits_of program (order program.grammar) rows → entry ≡ (facts_of rows p).entry →
+    effect ≡ effect_of (order rel) clause (from_known (behind_head (order rel) (narrowed_entry program (order rel) p entry) clause) (run_goal (order rel) exits clause.body)) → effect ≡ clause_effect program (order program.grammar) rows p clause
+effect_by program rows p clause rel is exits entry effect e f read =
+    read ∙ ap (λ g. effect_of (order g) clause (from_known (behind_head (order g) (narrowed_entry program (order g) p entry) clause) (run_goal (order g) exits clause.body))) is ∙ effect_read program rows p clause exits entry e f
 
 -- it is given, and every closed table has it
 pub clause_fits : (program : Program) → ReliedOn program → (rows : List Facts) → IsTable program rows → IsBelow program rows → (p : ℕ) (clause : Clause) → p < length program.preds → IsTrue (facts_of rows p).reached →

@@ -21,6 +21,12 @@ got_within [] i x e = absurd (none-some x e)
 got_within (y ∷ xs) zero x e = omega arith
 got_within (y ∷ xs) (suc i) x e = let lt = got_within xs i x e in omega (arith, lt)
 
+-- below the length something stands
+pub got_there : {A : Type 0} (xs : List A) (k : ℕ) → k < length xs → (x : A) × (slice_get xs k ≡ Some x)
+got_there [] k lt = absurd (omega (arith, lt))
+got_there (y ∷ xs) zero lt = (y, refl)
+got_there (y ∷ xs) (suc k) lt = got_there xs k (omega (arith, lt))
+
 -- what is read in its place is what stands there
 pub read_got : {A : Type 0} (xs : List A) (k : ℕ) (x : A) → k < length xs → x ≡ get_or xs k x → slice_get xs k ≡ Some x
 read_got xs k x lt e = got_at xs k x lt (sym e)
