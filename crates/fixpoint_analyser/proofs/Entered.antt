@@ -1,5 +1,5 @@
 -- The calls of entries, and the table from the first to the last moment.
-use Rattle.std.proofs.Common.{◌≡◌, ◌⊎◌, inl, inr, ℕ, zero, suc, ◌+◌, ◌<◌, ◌≤◌, Bool, true, false, ◌&&◌, List, [], ◌∷◌, length, map, replicate, refl, ap, sym, ◌∙◌, subst, arith, true≢false}
+use Rattle.std.proofs.Common.{◌≡◌, ◌⊎◌, inl, inr, ℕ, zero, suc, ◌+◌, ◌<◌, ◌≤◌, Bool, true, false, ◌&&◌, List, [], ◌∷◌, length, map, get_or, refl, ap, sym, ◌∙◌, subst, arith, true≢false}
 use Rattle.std.proofs.lemmas.Bool.Decides.{nat_tests}
 use Rattle.std.proofs.lemmas.Bool.{and_from}
 use Rattle.std.proofs.lemmas.Option.{same_Some}
@@ -7,18 +7,21 @@ use Rattle.std.specs.Prelude.{◌==◌, nat_lt, slice_get, slice_index_or, Optio
 use Rattle.std.specs.List.{list_all}
 use Rattle.prog_data.specs.declared.conditions.Prop.{Prop}
 use Rattle.prog_data.specs.declared.conditions.Prop.TheVariants as prop
+use Rattle.prog_data.specs.declared.grammars.Grammar.{Grammar}
 use Rattle.prog_data.specs.declared.programs.Entry.{Entry}
 use Rattle.prog_data.specs.declared.programs.Pred.{Pred}
 use Rattle.prog_data.specs.declared.programs.Program.{Program}
 use Rattle.prog_data.specs.declared.tables.Row.{Row}
 use Rattle.prog_data.specs.declared.tables.Value.{Value}
 use Rattle.prog_data.specs.Goals.{pred_of}
+use Rattle.prog_data.specs.Values.{seen}
 use Rattle.prog_data.specs.Ranges.{is_prop_of, is_pred_of}
 use Rattle.prog_data.specs.Programs.{IsProgram, is_entry_of}
 use Rattle.prog_data.proofs.Leaves.{In, here, later}
 use Rattle.prog_data.proofs.MembershipLaws.{contains_in}
 use Rattle.name_order.specs.Relations.{order}
 use Rattle.type_domain.specs.Laws.{AreOrdered}
+use Rattle.goal_transfer.specs.Conditions.{types_of}
 use Rattle.goal_transfer.specs.Range.{is_named}
 use Rattle.goal_transfer.specs.States.{exits_seen}
 use Rattle.goal_transfer.specs.Tables.{Facts, row_seen, facts_of, exits_of, IsTable, IsReached, entry_call, TableLeq, Least}
@@ -29,7 +32,7 @@ use Rattle.fixpoint_analyser.specs.Progress.{IsUnderWay, Ascends, Steps, IsSettl
 use Rattle.fixpoint_analyser.proofs.RowOrder.{still_reached}
 use Rattle.fixpoint_analyser.proofs.StaysBelow.{stays_below, done_is_least}
 use Rattle.fixpoint_analyser.proofs.TableStays.{table_stays}
-use Rattle.fixpoint_analyser.proofs.Places.{got_contains, got_at}
+use Rattle.fixpoint_analyser.proofs.Places.{got_contains, got_at, pred_read}
 use Rattle.fixpoint_analyser.proofs.Growth.{steps_itself, steps_over, settled_stays}
 
 -- entries are in range
@@ -58,6 +61,13 @@ module _ (program : Program) (range : IsProgram program) (e : Entry) (has : Cont
 
   pub entry_named : list_all (is_named (length program.grammar.rules)) e.pre ≡ true
   entry_named = props_named (pred_of program e.pred).arity (length program.grammar.rules) e.pre fits.1
+
+  -- the values of its call
+  pub entry_args : (preds : List Pred) (pred : Pred) (rel : Grammar) (props : List Prop) (args : List Value) → preds ≡ program.preds → pred ≡ get_or preds e.pred pred → rel ≡ program.grammar → props ≡ e.pre →
+      map seen args ≡ types_of (order rel) pred.arity props → map seen args ≡ (entry_call program e).1
+  entry_args preds pred rel props args is read is_grammar is_pre made =
+      let at : pred_of program e.pred ≡ pred = pred_read program.preds e.pred pred entry_pred (subst (λ ps. pred ≡ get_or ps e.pred pred) is read) in
+      made ∙ ap (λ g. types_of (order g) pred.arity props) is_grammar ∙ ap (λ ps. types_of (order program.grammar) pred.arity ps) is_pre ∙ ap (λ q. types_of (order program.grammar) q.arity e.pre) (sym at)
 
 -- the entries so far
 

@@ -1,11 +1,11 @@
 // The analysis: predicates are looked at as long as one waits.
-ghost use Rattle.std.specs.Prelude.{◌≡◌, ℕ, ◌<◌, true, false, length, map, slice_get, Some, Contains, IsTrue, IfOk, OnOk};
+ghost use Rattle.std.specs.Prelude.{◌≡◌, ◌⊎◌, ℕ, ◌<◌, true, false, length, map, slice_get, Some, Contains, IsTrue, IfOk, OnOk};
 ghost use Rattle.prog_data.specs.declared.programs.Clause.{Clause as ClauseValue};
 ghost use Rattle.prog_data.specs.declared.programs.Entry.{Entry as EntryValue};
 ghost use Rattle.prog_data.specs.Goals.{pred_of};
 ghost use Rattle.prog_data.specs.Programs.{IsProgram};
 ghost use Rattle.goal_transfer.specs.Tables.{row_seen, table_seen, facts_of, Least, TableLeq};
-ghost use Rattle.fixpoint_analyser.specs.Ascent.{IsDoneFor, IsDone};
+ghost use Rattle.fixpoint_analyser.specs.Ascent.{bottom, IsDoneFor, IsDone};
 ghost use Rattle.fixpoint_analyser.specs.Progress.{AreCallers, IsUnderWay, Steps, FirstSettled, IsSettled, IsEntered};
 ghost use Rattle.fixpoint_analyser.specs.Waits.{waits};
 
@@ -17,7 +17,7 @@ use crate::steps::{take_call, take_effect};
 use crate::waiting::Waiting;
 use goal_transfer::{Reached, run_clause_by, types_of};
 use name_order::Relations;
-use prog_data::{Entry, Program, Row, Table, Value, program_ranges_law};
+use prog_data::{Entry, Program, Row, Table, Value};
 use sqlite_items::Items;
 use std::alloc::Global;
 use term_core::NoMemory;
@@ -103,6 +103,7 @@ fn turn(
     ensures steps { OnOk result (Steps program.now rows.old waiting.old rows.new exits.new waiting.new) }
     ensures settled { OnOk result (IsSettled program.now (map row_seen rows.new) waiting.new pred) }
 {
+    relied_law(); // for the proof
     if !rows[pred as usize].reached {
         return Ok(());
     }

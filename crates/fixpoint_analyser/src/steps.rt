@@ -50,7 +50,8 @@ fn wake_callers(
     requires { pred < length callers.now }
     ensures { OnOk result (Wakes waiting.old waiting.new (λ p. stands_in (slice_index_or callers.now pred []) p)) }
 {
-    waiting.add_all(callers[pred as usize].as_slice())?;
+    let list = &callers[pred as usize];
+    waiting.add_all(list.as_slice())?;
     Ok(())
 }
 

@@ -7,3 +7,12 @@ use Rattle.fixpoint_analyser.proofs.analysis.turn.Goals as goal
 
 pub bounds-rows-pred : goal.bounds-rows-pred
 bounds-rows-pred c = row_in c.args.program.now c.args.rows.now c.args.exits.now c.args.waiting.now c.requires.under_way c.args.pred c.requires.pred
+
+pub returns-then-not-reached : goal.returns-then-not-reached
+returns-then-not-reached c = record {
+  steps = steps_itself c.args.program.now (c.relied_law.ensures c.args.program.now c.requires.range).ordered c.args.rows.now c.args.exits.now c.args.waiting.now c.requires.under_way;
+  settled = λ r. absurd (true≢false (sym r ∙ ap (λ f. f.reached) (row_at c.args.rows.now c.args.pred c.index-rows-pred.result (bounds-rows-pred c) c.index-rows-pred.is) ∙ c.if-not-reached.true));
+}
+
+pub run_all-requires-clause-reached : goal.run_all-requires-clause-reached
+run_all-requires-clause-reached c = ap (λ f. f.reached) (row_at c.args.rows.now c.args.pred c.index-rows-pred.result (row_in c.args.program.now c.args.rows.now c.args.exits.now c.args.waiting.now c.requires.under_way c.args.pred c.requires.pred) c.index-rows-pred.is) ∙ c.if-not-reached.false
