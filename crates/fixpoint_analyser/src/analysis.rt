@@ -104,7 +104,8 @@ fn turn(
     ensures settled { OnOk result (IsSettled program.now (map row_seen rows.new) waiting.new pred) }
 {
     relied_law(); // for the proof
-    if !rows[pred as usize].reached {
+    let reached = rows[pred as usize].reached;
+    if !reached {
         return Ok(());
     }
     run_all(alloc, program, rel, callers, rows, exits, waiting, pred)?;
