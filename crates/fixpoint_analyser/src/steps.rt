@@ -42,11 +42,7 @@ fn wake(
 }
 
 // Each caller of a predicate waits.
-fn wake_callers(
-    waiting: &mut Waiting,
-    callers: &[Items<u64>],
-    pred: u64,
-) -> Result<(), NoMemory>
+fn wake_callers(waiting: &mut Waiting, callers: &[Items<u64>], pred: u64) -> Result<(), NoMemory>
     requires { pred < length callers.now }
     ensures { OnOk result (Wakes waiting.old waiting.new (λ p. stands_in (slice_index_or callers.now pred []) p)) }
 {
