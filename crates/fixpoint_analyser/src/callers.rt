@@ -110,10 +110,7 @@ fn add_all(lists: &mut [Items<u64>], preds: &[Pred]) -> Result<(), NoMemory>
 /// # Errors
 ///
 /// Only for want of memory.
-pub(crate) fn callers_of(
-    alloc: Global,
-    program: &Program,
-) -> Result<Items<Items<u64>>, NoMemory>
+pub(crate) fn callers_of(alloc: Global, program: &Program) -> Result<Items<Items<u64>>, NoMemory>
     ensures count { IfOk result (λ lists. length lists ≡ length program.now.preds) }
     ensures callers { IfOk result (λ lists. (q : ℕ) → q < length program.now.preds → slice_index_or lists q [] ≡ callers_of program.now q) }
 {
