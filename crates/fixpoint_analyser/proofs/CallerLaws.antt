@@ -77,39 +77,39 @@ added_same a b n first second same h = record { count = h.count; each = λ q lt.
 
 -- adding to one list
 
-pub added_past : (lists : List (List ℕ)) (called n : ℕ) → length lists ≤ called → HasAdded lists lists n (λ q. called == q)
-added_past lists called n le = added_none lists n (λ q. called == q) (λ q lt. grind (arith, nat_tests, le, lt))
+pub added_past : (lists : List (List ℕ)) (called n : ℕ) → length lists ≤ called → HasAdded lists lists n (λ q. q == called)
+added_past lists called n le = added_none lists n (λ q. q == called) (λ q lt. grind (arith, nat_tests, le, lt))
 
-added_there : (lists : List (List ℕ)) (called n : ℕ) → called < length lists → HasAdded lists (slice_set lists called (ending_in (slice_index_or lists called []) n)) n (λ q. called == q)
-added_there lists called n lt = record { count = length-set lists called (ending_in (slice_index_or lists called []) n); each = λ q in_lists. by_test q (called == q) refl }
+added_there : (lists : List (List ℕ)) (called n : ℕ) → called < length lists → HasAdded lists (slice_set lists called (ending_in (slice_index_or lists called []) n)) n (λ q. q == called)
+added_there lists called n lt = record { count = length-set lists called (ending_in (slice_index_or lists called []) n); each = λ q in_lists. by_test q (q == called) refl }
   where
-    by_test : (q : ℕ) (b : Bool) → (called == q) ≡ b → slice_index_or (slice_set lists called (ending_in (slice_index_or lists called []) n)) q [] ≡ ending_where (called == q) (slice_index_or lists q []) n
+    by_test : (q : ℕ) (b : Bool) → (q == called) ≡ b → slice_index_or (slice_set lists called (ending_in (slice_index_or lists called []) n)) q [] ≡ ending_where (q == called) (slice_index_or lists q []) n
     by_test q true e =
         let same : called ≡ q = grind (arith, nat_tests, e) in
         subst (λ q. slice_index_or (slice_set lists called (ending_in (slice_index_or lists called []) n)) q [] ≡ ending_in (slice_index_or lists q []) n) same (get_or-set_same lists called (ending_in (slice_index_or lists called []) n) [] lt)
         ∙ ap (λ b. ending_where b (slice_index_or lists q []) n) (sym e)
     by_test q false e =
-        get_or-set_other lists called q (ending_in (slice_index_or lists called []) n) [] (λ same. let f : (called == q) ≡ true = grind (arith, nat_tests, same) in false≢true (sym e ∙ f))
+        get_or-set_other lists called q (ending_in (slice_index_or lists called []) n) [] (λ same. let f : (q == called) ≡ true = grind (arith, nat_tests, same) in false≢true (sym e ∙ f))
         ∙ ap (λ b. ending_where b (slice_index_or lists q []) n) (sym e)
 
 -- the list has the number already
-pub added_had : (lists : List (List ℕ)) (called n : ℕ) (x : List ℕ) → called < length lists → x ≡ get_or lists called x → ends_in x n ≡ true → HasAdded lists lists n (λ q. called == q)
+pub added_had : (lists : List (List ℕ)) (called n : ℕ) (x : List ℕ) → called < length lists → x ≡ get_or lists called x → ends_in x n ≡ true → HasAdded lists lists n (λ q. q == called)
 added_had lists called n x lt read e =
     let is : slice_index_or lists called [] ≡ x = sym (get_or_read lists called x lt read []) in
-    subst (λ new. HasAdded lists new n (λ q. called == q)) (ap (slice_set lists called) (ending_had (slice_index_or lists called []) n (ap (λ ns. ends_in ns n) is ∙ e)) ∙ set-get_or lists called []) (added_there lists called n lt)
+    subst (λ new. HasAdded lists new n (λ q. q == called)) (ap (slice_set lists called) (ending_had (slice_index_or lists called []) n (ap (λ ns. ends_in ns n) is ∙ e)) ∙ set-get_or lists called []) (added_there lists called n lt)
 
 -- it gets it
-pub added_pushed : (lists new : List (List ℕ)) (called n : ℕ) (x y : List ℕ) → called < length lists → x ≡ get_or lists called x → ends_in x n ≡ false → y ≡ x ++ n ∷ [] → new ≡ slice_set lists called y → HasAdded lists new n (λ q. called == q)
+pub added_pushed : (lists new : List (List ℕ)) (called n : ℕ) (x y : List ℕ) → called < length lists → x ≡ get_or lists called x → ends_in x n ≡ false → y ≡ x ++ n ∷ [] → new ≡ slice_set lists called y → HasAdded lists new n (λ q. q == called)
 added_pushed lists new called n x y lt read e is_y is_new =
     let is : slice_index_or lists called [] ≡ x = sym (get_or_read lists called x lt read []) in
-    subst (λ new. HasAdded lists new n (λ q. called == q))
+    subst (λ new. HasAdded lists new n (λ q. q == called))
     (ap (slice_set lists called) (ending_new (slice_index_or lists called []) n (ap (λ ns. ends_in ns n) is ∙ e) ∙ ap (λ ns. ns ++ n ∷ []) is ∙ sym is_y) ∙ sym is_new)
     (added_there lists called n lt)
 
 -- goals
 
-pub calls_Call : (g : Goal) (p : ℕ) (ts : List Term) → g ≡ goal.Call p ts → (q : ℕ) → (p == q) ≡ calls q g
-calls_Call g p ts is q = grind (arith, nat_tests) ∙ sym (ap (calls q) is ∙ fold-Call Bool (calls_step q) p ts)
+pub calls_Call : (g : Goal) (p : ℕ) (ts : List Term) → g ≡ goal.Call p ts → (q : ℕ) → (q == p) ≡ calls q g
+calls_Call g p ts is q = sym (ap (calls q) is ∙ fold-Call Bool (calls_step q) p ts)
 
 pub calls_Conj : (g a b x y : Goal) → g ≡ goal.Conj a b → x ≡ a → y ≡ b → (q : ℕ) → (calls q x || calls q y) ≡ calls q g
 calls_Conj g a b x y is e f q = (λ i. calls q (e i) || calls q (f i)) ∙ sym (ap (calls q) is ∙ fold-Conj Bool (calls_step q) a b)
@@ -152,7 +152,7 @@ pub clauses_turn : (a b c : List (List ℕ)) (n i : ℕ) (clauses : List Clause)
     HasAdded a b n (some_calls (take i clauses)) → HasAdded b c n (λ q. calls q clause.body) → HasAdded a c n (some_calls (take (i + 1) clauses))
 clauses_turn a b c n i clauses clause lt read h k =
     added_same a c n (λ q. some_calls (take i clauses) q || calls q clause.body) (some_calls (take (i + 1) clauses))
-    (λ q. ap (λ x. some_calls (take i clauses) q || calls q x.body) read ∙ sym (list_any_more (λ clause. calls q clause.body) clauses i clause lt))
+    (λ q. ap (λ (x : Clause). some_calls (take i clauses) q || calls q x.body) read ∙ sym (list_any_more (λ clause. calls q clause.body) clauses i clause lt))
     (added_both a b c n (some_calls (take i clauses)) (λ q. calls q clause.body) h k)
 
 -- predicates
@@ -211,7 +211,7 @@ callers_turn preds k old new pred clauses lt read is had added = record {
   count = added.count ∙ had.count;
   each = λ q in_preds.
       added.each q (subst (λ n. q < n) (sym had.count) in_preds)
-      ∙ ap (λ cs. ending_where (some_calls cs q) (slice_index_or old q []) k) (is ∙ ap (λ p. p.clauses) (get_or_read preds k pred lt read no_pred))
+      ∙ ap (λ cs. ending_where (some_calls cs q) (slice_index_or old q []) k) (is ∙ ap (λ (p : Pred). p.clauses) (get_or_read preds k pred lt read no_pred))
       ∙ ap (λ ns. ending_where (some_calls (slice_index_or preds k no_pred).clauses q) ns k) (had.each q in_preds)
       ∙ ended (λ p. some_calls (slice_index_or preds p no_pred).clauses q) k;
 }

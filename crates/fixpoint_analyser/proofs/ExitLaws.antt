@@ -19,8 +19,8 @@ use Rattle.fixpoint_analyser.proofs.RowLaws.{row_at}
 -- no exit is stored
 
 -- so many exits, all none
-pub record NoExits (count : ℕ) (es : List (Option (List Value))) : Type 0 where
-  pub count : length es ≡ count
+pub record NoExits (size : ℕ) (es : List (Option (List Value))) : Type 0 where
+  pub count : length es ≡ size
   pub none : (p : ℕ) → exits_seen es p ≡ None
 
 pub no_exit_first : (es : List (Option (List Value))) → es ≡ [] → NoExits 0 es

@@ -34,7 +34,7 @@ fn ends_in(numbers: &[u64], number: u64) -> bool
 
 // Lets the list of a predicate, if there is one with this number, end in a number.
 fn add_caller(lists: &mut [Items<u64>], called: u64, pred: u64) -> Result<(), NoMemory>
-    ensures { OnOk result (HasAdded lists.old lists.new pred (λ q. called == q)) }
+    ensures { OnOk result (HasAdded lists.old lists.new pred (λ q. q == called)) }
 {
     let place = called as usize;
     if place >= lists.len() {
