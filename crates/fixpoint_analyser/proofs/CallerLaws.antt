@@ -22,12 +22,12 @@ use Rattle.fixpoint_analyser.specs.Callers.{stands_in, ends_in, ending_in, endin
 
 -- the last number
 
-pub ends_read : (ns : List ℕ) (i m n : ℕ) → i + 1 ≡ length ns → m ≡ get_or ns i m → (m == n) ≡ ends_in ns n
-ends_read [] i m n e read = absurd (omega (arith, e))
-ends_read (x ∷ []) zero m n e read = ap (λ k. k == n) read
-ends_read (x ∷ []) (suc i) m n e read = absurd (omega (arith, e))
-ends_read (x ∷ y ∷ ns) zero m n e read = absurd (omega (arith, e))
-ends_read (x ∷ y ∷ ns) (suc i) m n e read = ends_read (y ∷ ns) i m n (omega (arith, e)) read
+pub ends_at : (ns : List ℕ) (i n : ℕ) → i + 1 ≡ length ns → (slice_index_or ns i 0 == n) ≡ ends_in ns n
+ends_at [] i n e = absurd (omega (arith, e))
+ends_at (x ∷ []) zero n e = refl
+ends_at (x ∷ []) (suc i) n e = absurd (omega (arith, e))
+ends_at (x ∷ y ∷ ns) zero n e = absurd (omega (arith, e))
+ends_at (x ∷ y ∷ ns) (suc i) n e = ends_at (y ∷ ns) i n (omega (arith, e))
 
 itself : (n : ℕ) → (n == n) ≡ true
 itself n = grind (arith, nat_tests)

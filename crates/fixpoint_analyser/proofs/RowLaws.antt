@@ -1,7 +1,7 @@
 -- Stored rows, and values that are joined in their places.
 use Rattle.std.proofs.Common.{◌≡◌, ◌↔◌, ℕ, zero, suc, ◌+◌, ◌<◌, ◌≤◌, Bool, true, false, ◌&&◌, List, [], ◌∷◌, length, map, drop, get_or, replicate, refl, ap, sym, ◌∙◌, subst, arith}
 use Rattle.std.proofs.lemmas.Bool.{false≢true, true≢false}
-use Rattle.std.proofs.lemmas.List.{drop_more, drop_all, length-map, set-get_or}
+use Rattle.std.proofs.lemmas.List.{drop_more, drop_all, length-map, set-get_or, get_or_default}
 use Rattle.std.specs.Prelude.{slice_set, slice_index_or, None, Some, IsTrue}
 use Rattle.prog_data.specs.declared.tables.Value.{Value}
 use Rattle.prog_data.specs.declared.tables.Row.{Row}
@@ -75,11 +75,12 @@ joined_next (suc k) (v ∷ vs) (w ∷ ws) (u ∷ us) x y z lt less is read other
     let rest = joined_next k vs ws us x y z (omega (arith, lt)) (omega (arith, less)) (tails (seen u) (join v (seen w)) (map seen us) (joined_to k vs (map seen ws)) is) read other e in
     ap (λ a. a ∷ map seen (slice_set us k x)) (heads (seen u) (join v (seen w)) (map seen us) (joined_to k vs (map seen ws)) is) ∙ ap (λ as'. join v (seen w) ∷ as') rest
 
-pub joined_turn : (k : ℕ) (vs : List TypeValue) (others now : List Value) (x y z : Value) → k < length vs → k < length others → map seen now ≡ joined_to k vs (map seen others) → y ≡ get_or now k y → z ≡ get_or others k z → seen x ≡ join (seen y) (seen z) →
+pub joined_turn : (k : ℕ) (vs : List TypeValue) (others now : List Value) (x d e : Value) → k < length vs → k < length others → k < length now → map seen now ≡ joined_to k vs (map seen others) → seen x ≡ join (seen (get_or now k d)) (seen (get_or others k e)) →
     map seen (slice_set now k x) ≡ joined_to (k + 1) vs (map seen others)
-joined_turn k vs others now x y z lt less is read other e =
+joined_turn k vs others now x d e lt less within is joined =
     let next : suc k ≡ k + 1 = omega arith in
-    subst (λ n. map seen (slice_set now k x) ≡ joined_to n vs (map seen others)) next (joined_next k vs others now x y z lt less is read other e)
+    subst (λ n. map seen (slice_set now k x) ≡ joined_to n vs (map seen others)) next
+    (joined_next k vs others now x (get_or now k d) (get_or others k e) lt less is (get_or_default now k d (get_or now k d) within) (get_or_default others k e (get_or others k e) less) joined)
 
 pub joined_all : (k : ℕ) (vs ws : List TypeValue) → length ws ≤ k → length ws ≡ length vs → joined_to k vs ws ≡ join_each vs ws
 joined_all zero [] ws le e = refl
