@@ -1,7 +1,7 @@
 -- Stored rows, and values that are joined in their places.
-use Rattle.std.proofs.Common.{◌≡◌, ◌↔◌, ℕ, zero, suc, ◌+◌, ◌<◌, ◌≤◌, Bool, true, false, ◌&&◌, List, [], ◌∷◌, length, map, drop, get_or, replicate, refl, ap, sym, ◌∙◌, subst, arith}
+use Rattle.std.proofs.Common.{◌≡◌, ◌↔◌, ℕ, zero, suc, ◌+◌, ◌<◌, ◌≤◌, Bool, true, false, ◌&&◌, List, [], ◌∷◌, ◌++◌, length, map, drop, get_or, refl, ap, sym, ◌∙◌, subst, arith}
 use Rattle.std.proofs.lemmas.Bool.{false≢true, true≢false}
-use Rattle.std.proofs.lemmas.List.{drop_more, drop_all, length-map, set-get_or, get_or_default}
+use Rattle.std.proofs.lemmas.List.{map-append, replicate-append-replicate, drop_more, drop_all, length-map, set-get_or, get_or_default}
 use Rattle.std.specs.Prelude.{slice_set, slice_index_or, None, Some, IsTrue}
 use Rattle.prog_data.specs.declared.tables.Value.{Value}
 use Rattle.prog_data.specs.declared.tables.Row.{Row}
@@ -10,12 +10,11 @@ use Rattle.type_domain.specs.Values.{Leq, join}
 use Rattle.type_domain.specs.Laws.{LeqEach}
 use Rattle.goal_transfer.specs.Conditions.{join_each}
 use Rattle.goal_transfer.specs.Tables.{Facts, row_seen, facts_of}
-use Rattle.fixpoint_analyser.specs.Ascent.{with_row, called_row, exited_row}
+use Rattle.fixpoint_analyser.specs.Ascent.{nones, with_row, called_row, exited_row}
 
--- as many of one value
-pub map-replicate : {A B : Type 0} (f : A → B) (n : ℕ) (x : A) → map f (replicate n x) ≡ replicate n (f x)
-map-replicate f zero x = refl
-map-replicate f (suc n) x = ap (λ ys. f x ∷ ys) (map-replicate f n x)
+-- one more none
+pub nones_more : (k : ℕ) (vs new : List Value) (x : Value) → new ≡ vs ++ x ∷ [] → seen x ≡ None → map seen vs ≡ nones k → map seen new ≡ nones (k + 1)
+nones_more k vs new x is e had = ap (map seen) is ∙ map-append seen vs (x ∷ []) ∙ (λ i. had i ++ e i ∷ []) ∙ replicate-append-replicate k 1 None
 
 -- a test place by place
 
