@@ -10,4 +10,4 @@ returns-clause-rows c =
     let rows = c.args.rows.now in
     let p = c.args.pred in
     row_written rows p c.exit_row.new.row
-    ∙ ap (with_row (map row_seen rows) p) (c.exit_row.ensures.row ∙ ap (exited_row (map seen c.args.values.now)) (sym (row_at rows p c.index-rows-pred.result c.requires.pred c.index-rows-pred.is)))
+    ∙ ap (with_row (map row_seen rows) p) (c.exit_row.ensures.row ∙ ap (exited_row (map seen c.args.values.now)) (ap row_seen (sym c.index-rows-pred.is) ∙ sym (row_at rows p c.index-rows-pred.result c.requires.pred c.index-rows-pred.is)))
