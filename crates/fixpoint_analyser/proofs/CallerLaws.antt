@@ -1,5 +1,5 @@
 -- Lists of callers, as they are made; what they say.
-use Rattle.std.proofs.Common.{◌≡◌, ℕ, zero, suc, ◌+◌, ◌-◌, ◌<◌, ◌≤◌, Bool, true, false, cond, ◌||◌, List, [], ◌∷◌, ◌++◌, length, take, get_or, refl, ap, sym, ◌∙◌, subst, arith}
+use Rattle.std.proofs.Common.{◌≡◌, ℕ, zero, suc, ◌+◌, ◌<◌, ◌≤◌, Bool, true, false, cond, ◌||◌, List, [], ◌∷◌, ◌++◌, length, take, get_or, refl, ap, sym, ◌∙◌, subst, arith}
 use Rattle.std.proofs.lemmas.Bool.{false≢true, or_parts, or_right, false_from_ne_true}
 use Rattle.std.proofs.lemmas.Bool.Decides.{nat_tests}
 use Rattle.std.proofs.lemmas.List.{append-nil, get_or-set_same, get_or-set_other, length-set, set-get_or, get_or_read}
@@ -18,7 +18,7 @@ use Rattle.prog_data.specs.Goals.{no_pred, pred_of}
 use Rattle.prog_data.proofs.GoalFolds.{fold-True, fold-Fail, fold-Cut, fold-Call, fold-Builtin, fold-Conj, fold-Disj, fold-IfElse, fold-Not, fold-Exit}
 use Rattle.name_order.specs.Relations.{names_from, names_below}
 use Rattle.fixpoint_analyser.specs.Ascent.{calls_step, calls, callers_of}
-use Rattle.fixpoint_analyser.specs.Callers.{stands_in, ends_in, ending_in, ending_where, HasAdded, callers_among, HasCallers}
+use Rattle.fixpoint_analyser.specs.Callers.{stands_in, ends_in, ending_in, ending_where, HasAdded, HasCallers}
 
 -- the last number
 

@@ -2,7 +2,7 @@
 use Rattle.std.proofs.Common.{◌≡◌, ◌↔◌, ℕ, zero, suc, ◌+◌, ◌<◌, ◌≤◌, Bool, true, false, ◌&&◌, List, [], ◌∷◌, ◌++◌, length, map, drop, get_or, refl, ap, sym, ◌∙◌, subst, arith}
 use Rattle.std.proofs.lemmas.Bool.{false≢true, true≢false}
 use Rattle.std.proofs.lemmas.List.{map-append, replicate-append-replicate, drop_more, drop_all, length-map, set-get_or, get_or_default}
-use Rattle.std.specs.Prelude.{slice_set, slice_index_or, None, Some, IsTrue}
+use Rattle.std.specs.Prelude.{slice_set, None, Some, IsTrue}
 use Rattle.prog_data.specs.declared.tables.Value.{Value}
 use Rattle.prog_data.specs.declared.tables.Row.{Row}
 use Rattle.prog_data.specs.Values.{TypeValue, seen}

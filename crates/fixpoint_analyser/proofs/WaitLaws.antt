@@ -4,8 +4,7 @@ use Rattle.std.proofs.lemmas.Bool.{false≢true}
 use Rattle.std.proofs.lemmas.Bool.Decides.{nat_tests}
 use Rattle.std.proofs.lemmas.List.{drop_more, drop_all, length-set, set_comm, set-get_or, get_or-set_same, get_or-set_other}
 use Rattle.std.proofs.lemmas.Option.{slice_get_read}
-use Rattle.std.specs.Prelude.{◌==◌, not, slice_get, slice_index_or, slice_set, Some, MatchBool}
-use Rattle.fixpoint_analyser.specs.Heights.{one}
+use Rattle.std.specs.Prelude.{◌==◌, not, slice_get, slice_set, Some, MatchBool}
 use Rattle.fixpoint_analyser.specs.Callers.{stands_in}
 use Rattle.fixpoint_analyser.specs.Waits.{waits, number_waiting, IsQueue}
 

@@ -1,4 +1,4 @@
-use Rattle.std.proofs.Common.{length, map, ap, sym, subst, ◌∙◌, ◌<◌, arith}
+use Rattle.std.proofs.Common.{length, map, ap, sym, ◌∙◌, ◌<◌, arith}
 use Rattle.std.proofs.lemmas.List.{length-set, length-map}
 use Rattle.std.specs.Prelude.{slice_set}
 use Rattle.prog_data.specs.Values.{seen}
@@ -16,7 +16,7 @@ loop-index-preserved c =
     let lt : k < length (map seen c.args.values.now) = omega (arith, less, c.requires, length-map c.args.values.now seen) in (
       c.loop-index.invariant.0 ∙ sym (ap length c.set.ensures ∙ length-set c.loop-index.values k x),
       ap (map seen) c.set.ensures ∙ ap (λ vs. map seen (slice_set vs k x)) (sym c.as_slice.ensures)
-      ∙ joined_turn k (map seen c.args.values.now) others here x _ _ lt less within (ap (map seen) c.as_slice.ensures ∙ c.loop-index.invariant.1) c.join-joined.ensures.value,
+          ∙ joined_turn k (map seen c.args.values.now) others here x _ _ lt less within (ap (map seen) c.as_slice.ensures ∙ c.loop-index.invariant.1) c.join-joined.ensures.value,
     )
 
 pub returns : goal.returns
