@@ -1,5 +1,5 @@
 -- Lists of callers, as they are made; what they say.
-use Rattle.std.proofs.Common.{◌≡◌, ℕ, zero, suc, ◌+◌, ◌-◌, ◌<◌, ◌≤◌, Bool, true, false, cond, ◌||◌, List, [], ◌∷◌, ◌++◌, length, take, get_or, refl, ap, sym, ◌∙◌, subst, arith}
+use Rattle.std.proofs.Common.{◌≡◌, ℕ, zero, suc, ◌+◌, ◌<◌, ◌≤◌, Bool, true, false, cond, ◌||◌, List, [], ◌∷◌, ◌++◌, length, take, get_or, refl, ap, sym, ◌∙◌, subst, arith}
 use Rattle.std.proofs.lemmas.Bool.{false≢true, or_parts, or_right, false_from_ne_true}
 use Rattle.std.proofs.lemmas.Bool.Decides.{nat_tests}
 use Rattle.std.proofs.lemmas.List.{append-nil, get_or-set_same, get_or-set_other, length-set, set-get_or, get_or_read}
@@ -18,16 +18,16 @@ use Rattle.prog_data.specs.Goals.{no_pred, pred_of}
 use Rattle.prog_data.proofs.GoalFolds.{fold-True, fold-Fail, fold-Cut, fold-Call, fold-Builtin, fold-Conj, fold-Disj, fold-IfElse, fold-Not, fold-Exit}
 use Rattle.name_order.specs.Relations.{names_from, names_below}
 use Rattle.fixpoint_analyser.specs.Ascent.{calls_step, calls, callers_of}
-use Rattle.fixpoint_analyser.specs.Callers.{stands_in, ends_in, ending_in, ending_where, HasAdded, callers_among, HasCallers}
+use Rattle.fixpoint_analyser.specs.Callers.{stands_in, ends_in, ending_in, ending_where, HasAdded, HasCallers}
 
 -- the last number
 
-pub ends_read : (ns : List ℕ) (i m n : ℕ) → i + 1 ≡ length ns → m ≡ get_or ns i m → (m == n) ≡ ends_in ns n
-ends_read [] i m n e read = absurd (omega (arith, e))
-ends_read (x ∷ []) zero m n e read = ap (λ k. k == n) read
-ends_read (x ∷ []) (suc i) m n e read = absurd (omega (arith, e))
-ends_read (x ∷ y ∷ ns) zero m n e read = absurd (omega (arith, e))
-ends_read (x ∷ y ∷ ns) (suc i) m n e read = ends_read (y ∷ ns) i m n (omega (arith, e)) read
+pub ends_at : (ns : List ℕ) (i n : ℕ) → i + 1 ≡ length ns → (slice_index_or ns i 0 == n) ≡ ends_in ns n
+ends_at [] i n e = absurd (omega (arith, e))
+ends_at (x ∷ []) zero n e = refl
+ends_at (x ∷ []) (suc i) n e = absurd (omega (arith, e))
+ends_at (x ∷ y ∷ ns) zero n e = absurd (omega (arith, e))
+ends_at (x ∷ y ∷ ns) (suc i) n e = ends_at (y ∷ ns) i n (omega (arith, e))
 
 itself : (n : ℕ) → (n == n) ≡ true
 itself n = grind (arith, nat_tests)

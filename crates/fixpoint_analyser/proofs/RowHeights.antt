@@ -6,7 +6,7 @@ use Rattle.std.specs.List.{AllByRecursion}
 use Rattle.prog_data.specs.declared.programs.Program.{Program}
 use Rattle.prog_data.specs.Values.{TypeValue}
 use Rattle.name_order.specs.Relations.{Order, order}
-use Rattle.type_domain.specs.Values.{is_set, IsValue, Leq, join, names_of}
+use Rattle.type_domain.specs.Values.{is_set, IsValue, join, names_of}
 use Rattle.type_domain.specs.Laws.{LeqEach}
 use Rattle.goal_transfer.specs.Transfer.{ReachedCall}
 use Rattle.goal_transfer.specs.Conditions.{join_each}

@@ -1,8 +1,8 @@
 -- Stored rows, and values that are joined in their places.
-use Rattle.std.proofs.Common.{◌≡◌, ◌↔◌, ℕ, zero, suc, ◌+◌, ◌<◌, ◌≤◌, Bool, true, false, ◌&&◌, List, [], ◌∷◌, length, map, drop, get_or, replicate, refl, ap, sym, ◌∙◌, subst, arith}
+use Rattle.std.proofs.Common.{◌≡◌, ◌↔◌, ℕ, zero, suc, ◌+◌, ◌<◌, ◌≤◌, Bool, true, false, ◌&&◌, List, [], ◌∷◌, ◌++◌, length, map, drop, get_or, refl, ap, sym, ◌∙◌, subst, arith}
 use Rattle.std.proofs.lemmas.Bool.{false≢true, true≢false}
-use Rattle.std.proofs.lemmas.List.{drop_more, drop_all, length-map, set-get_or}
-use Rattle.std.specs.Prelude.{slice_set, slice_index_or, None, Some, IsTrue}
+use Rattle.std.proofs.lemmas.List.{map-append, replicate-append-replicate, drop_more, drop_all, length-map, set-get_or, get_or_default}
+use Rattle.std.specs.Prelude.{slice_set, None, Some, IsTrue}
 use Rattle.prog_data.specs.declared.tables.Value.{Value}
 use Rattle.prog_data.specs.declared.tables.Row.{Row}
 use Rattle.prog_data.specs.Values.{TypeValue, seen}
@@ -10,12 +10,11 @@ use Rattle.type_domain.specs.Values.{Leq, join}
 use Rattle.type_domain.specs.Laws.{LeqEach}
 use Rattle.goal_transfer.specs.Conditions.{join_each}
 use Rattle.goal_transfer.specs.Tables.{Facts, row_seen, facts_of}
-use Rattle.fixpoint_analyser.specs.Ascent.{with_row, called_row, exited_row}
+use Rattle.fixpoint_analyser.specs.Ascent.{nones, with_row, called_row, exited_row}
 
--- as many of one value
-pub map-replicate : {A B : Type 0} (f : A → B) (n : ℕ) (x : A) → map f (replicate n x) ≡ replicate n (f x)
-map-replicate f zero x = refl
-map-replicate f (suc n) x = ap (λ ys. f x ∷ ys) (map-replicate f n x)
+-- one more none
+pub nones_more : (k : ℕ) (vs new : List Value) (x : Value) → new ≡ vs ++ x ∷ [] → seen x ≡ None → map seen vs ≡ nones k → map seen new ≡ nones (k + 1)
+nones_more k vs new x is e had = ap (map seen) is ∙ map-append seen vs (x ∷ []) ∙ (λ i. had i ++ e i ∷ []) ∙ replicate-append-replicate k 1 None
 
 -- a test place by place
 
@@ -75,11 +74,12 @@ joined_next (suc k) (v ∷ vs) (w ∷ ws) (u ∷ us) x y z lt less is read other
     let rest = joined_next k vs ws us x y z (omega (arith, lt)) (omega (arith, less)) (tails (seen u) (join v (seen w)) (map seen us) (joined_to k vs (map seen ws)) is) read other e in
     ap (λ a. a ∷ map seen (slice_set us k x)) (heads (seen u) (join v (seen w)) (map seen us) (joined_to k vs (map seen ws)) is) ∙ ap (λ as'. join v (seen w) ∷ as') rest
 
-pub joined_turn : (k : ℕ) (vs : List TypeValue) (others now : List Value) (x y z : Value) → k < length vs → k < length others → map seen now ≡ joined_to k vs (map seen others) → y ≡ get_or now k y → z ≡ get_or others k z → seen x ≡ join (seen y) (seen z) →
+pub joined_turn : (k : ℕ) (vs : List TypeValue) (others now : List Value) (x d e : Value) → k < length vs → k < length others → k < length now → map seen now ≡ joined_to k vs (map seen others) → seen x ≡ join (seen (get_or now k d)) (seen (get_or others k e)) →
     map seen (slice_set now k x) ≡ joined_to (k + 1) vs (map seen others)
-joined_turn k vs others now x y z lt less is read other e =
+joined_turn k vs others now x d e lt less within is joined =
     let next : suc k ≡ k + 1 = omega arith in
-    subst (λ n. map seen (slice_set now k x) ≡ joined_to n vs (map seen others)) next (joined_next k vs others now x y z lt less is read other e)
+    subst (λ n. map seen (slice_set now k x) ≡ joined_to n vs (map seen others)) next
+    (joined_next k vs others now x (get_or now k d) (get_or others k e) lt less is (get_or_default now k d (get_or now k d) within) (get_or_default others k e (get_or others k e) less) joined)
 
 pub joined_all : (k : ℕ) (vs ws : List TypeValue) → length ws ≤ k → length ws ≡ length vs → joined_to k vs ws ≡ join_each vs ws
 joined_all zero [] ws le e = refl

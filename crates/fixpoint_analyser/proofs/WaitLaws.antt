@@ -2,9 +2,9 @@
 use Rattle.std.proofs.Common.{◌≡◌, ℕ, zero, suc, ◌+◌, ◌<◌, ◌≤◌, Bool, true, false, ◌||◌, List, [], ◌∷◌, ◌++◌, length, drop, replicate, get_or, refl, ap, sym, ◌∙◌, subst, arith}
 use Rattle.std.proofs.lemmas.Bool.{false≢true}
 use Rattle.std.proofs.lemmas.Bool.Decides.{nat_tests}
-use Rattle.std.proofs.lemmas.List.{drop_more, drop_all, length-set, set_comm, get_or-set_same, get_or-set_other}
-use Rattle.std.specs.Prelude.{◌==◌, nat_lt, slice_get, slice_index_or, slice_set, Some, None}
-use Rattle.fixpoint_analyser.specs.Heights.{one}
+use Rattle.std.proofs.lemmas.List.{drop_more, drop_all, length-set, set_comm, set-get_or, get_or-set_same, get_or-set_other}
+use Rattle.std.proofs.lemmas.Option.{slice_get_read}
+use Rattle.std.specs.Prelude.{◌==◌, not, slice_get, slice_set, Some, MatchBool}
 use Rattle.fixpoint_analyser.specs.Callers.{stands_in}
 use Rattle.fixpoint_analyser.specs.Waits.{waits, number_waiting, IsQueue}
 
@@ -30,16 +30,10 @@ set_back [] p f e = refl
 set_back (g ∷ fs) zero f e = ap (λ h. h ∷ fs) (sym e)
 set_back (g ∷ fs) (suc p) f e = ap (λ hs. g ∷ hs) (set_back fs p f e)
 
--- a flag that is set already, or is not there
-pub set_idle : (flags : List Bool) (p : ℕ) (f : Bool) → Some f ≡ slice_get flags p → f ≡ true → slice_set flags p true ≡ flags
-set_idle [] p f e is = cc
-set_idle (g ∷ fs) zero f e is = let same : f ≡ g = cc in ap (λ h. h ∷ fs) (sym is ∙ same)
-set_idle (g ∷ fs) (suc p) f e is = ap (λ hs. g ∷ hs) (set_idle fs p f e is)
-
-pub set_absent : (flags : List Bool) (p : ℕ) → None ≡ slice_get flags p → slice_set flags p true ≡ flags
-set_absent [] p e = refl
-set_absent (g ∷ fs) zero e = cc
-set_absent (g ∷ fs) (suc p) e = ap (λ hs. g ∷ hs) (set_absent fs p e)
+-- a flag that is set stays so
+pub idle_there : (flags : List Bool) (p : ℕ) (f : Bool) → p < length flags → f ≡ get_or flags p f → MatchBool (not f) (slice_get flags p ≡ Some false) (slice_set flags p true ≡ flags)
+idle_there flags p true lt read = ap (slice_set flags p) read ∙ set-get_or flags p true
+idle_there flags p false lt read = slice_get_read flags (length flags) p false refl lt read
 
 -- which wait then
 pub waits_set : (flags : List Bool) (p q : ℕ) → q < length flags → waits (slice_set flags p true) q ≡ (waits flags q || (p == q))

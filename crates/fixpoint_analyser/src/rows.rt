@@ -17,8 +17,11 @@ use type_domain::{join, leq};
 fn nones(alloc: Global, arity: u64) -> Result<Items<Value>, NoMemory>
     ensures { IfOk result (λ vs. map seen vs ≡ nones arity) }
 {
-    let values = vec![in alloc; Value { names: None }; arity as usize]?;
-    Ok(Items::from_vec(values))
+    let mut values = Items::new(alloc);
+    for _argument in 0..arity {
+        values.push(Value { names: None })?;
+    }
+    Ok(values)
 }
 
 // The row of a predicate that is not reached.
