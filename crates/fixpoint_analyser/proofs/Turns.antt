@@ -41,7 +41,7 @@ module _ (program : Program) (ordered : AreOrdered (order program.grammar)) (a :
   other_settled q other (inr same) settled r = from (settled (sym same.reached ∙ r))
     where
       from : (waits flags q ≡ true) ⊎ IsDone program a q → (waits after q ≡ true) ⊎ IsDone program b q
-      from (inl w) = inl (up.waiting q (ap (λ fs. waits fs q) is ∙ get_or-set_other flags p q false false (λ e. other (sym e)) ∙ w))
+      from (inl w) = inl (up.waiting q (ap (λ fs. waits fs q) is ∙ get_or-set_other flags p q false false other ∙ w))
       from (inr done) = inr (still_done program ordered a left b after up q same done)
 
   -- all are settled again once the one that was taken off is
