@@ -28,3 +28,9 @@ loop-clause-preserved c =
           (first_stays program ordered (map row_seen c.loop-clause.rows) c.loop-clause.waiting (map row_seen c.run_one.new.rows) c.run_one.new.waiting steps.ascends c.args.pred c.loop-clause.clause c.loop-clause.invariant.settled)
           c.in_ok-run_one.ensures.settled;
     }
+
+pub returns-clause-settled : goal.returns-clause-settled
+returns-clause-settled c =
+    let h = c.loop-clause-test in
+    let all : length (pred_of c.args.program.now c.args.pred).clauses ≤ c.loop-clause.clause = ? in
+    first_all c.args.program.now (map row_seen c.loop-clause.rows) c.loop-clause.waiting c.args.pred c.loop-clause.clause all c.loop-clause.invariant.settled
