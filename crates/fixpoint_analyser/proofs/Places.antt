@@ -1,5 +1,6 @@
 -- What stands in a list, by its place.
-use Rattle.std.proofs.Common.{◌≡◌, ℕ, zero, suc, ◌+◌, ◌<◌, ◌≤◌, Bool, true, false, List, [], ◌∷◌, length, map, get_or, refl, ap, sym, ◌∙◌, subst, arith}
+use Rattle.std.proofs.Common.{◌≡◌, ℕ, zero, suc, ◌+◌, ◌<◌, ◌≤◌, Bool, true, false, List, [], ◌∷◌, ◌++◌, length, map, take, drop, get_or, refl, ap, sym, ◌∙◌, subst, arith}
+use Rattle.std.proofs.lemmas.List.{take_at}
 use Rattle.std.proofs.lemmas.Option.{none-some, same_Some}
 use Rattle.std.specs.Prelude.{slice_get, slice_index_or, None, Some, Contains}
 use Rattle.std.specs.List.{AllByRecursion}
@@ -47,3 +48,7 @@ pub past_pred : (preds : List Pred) (p : ℕ) → length preds ≤ p → slice_i
 past_pred [] p le = refl
 past_pred (x ∷ preds) zero le = absurd (omega (arith, le))
 past_pred (x ∷ preds) (suc p) le = past_pred preds p (omega (arith, le))
+
+-- what a list has, once a slice of all of it was written
+pub written_back : {A : Type 0} (new old : List A) (n : ℕ) → n ≡ length new → take n (new ++ drop (length new) old) ≡ new
+written_back new old n e = take_at new (drop (length new) old) n (sym e)

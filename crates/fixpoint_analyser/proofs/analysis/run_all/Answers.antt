@@ -1,4 +1,4 @@
-use Rattle.std.proofs.Common.{◌≡◌, ◌<◌, ◌≤◌, length, map, ap, sym, subst, ◌∙◌}
+use Rattle.std.proofs.Common.{◌≡◌, ◌<◌, ◌≤◌, length, map, get_or, ap, sym, subst, ◌∙◌}
 use Rattle.prog_data.specs.Goals.{pred_of}
 use Rattle.goal_transfer.specs.Tables.{row_seen}
 use Rattle.fixpoint_analyser.proofs.Places.{pred_read}
@@ -31,6 +31,7 @@ loop-clause-preserved c =
 
 pub returns-clause-settled : goal.returns-clause-settled
 returns-clause-settled c =
-    let h = c.loop-clause-test in
-    let all : length (pred_of c.args.program.now c.args.pred).clauses ≤ c.loop-clause.clause = ? in
-    first_all c.args.program.now (map row_seen c.loop-clause.rows) c.loop-clause.waiting c.args.pred c.loop-clause.clause all c.loop-clause.invariant.settled
+    let at : pred_of c.args.program.now c.args.pred ≡ c.index-as_slice-pred.result =
+    pred_read c.args.program.now.preds c.args.pred c.index-as_slice-pred.result c.requires.pred (subst (λ ps. c.index-as_slice-pred.result ≡ get_or ps c.args.pred c.index-as_slice-pred.result) c.as_slice.ensures c.index-as_slice-pred.is) in
+    let count : c.len-count.result ≡ length (pred_of c.args.program.now c.args.pred).clauses = c.len-count.ensures ∙ ap (λ q. length q.clauses) (sym c.index-as_slice-pred.is ∙ sym at) in
+    first_all c.args.program.now (map row_seen c.loop-clause.rows) c.loop-clause.waiting c.args.pred c.loop-clause.clause (subst (λ n. n ≤ c.loop-clause.clause) count c.loop-clause-test.false) c.loop-clause.invariant.settled

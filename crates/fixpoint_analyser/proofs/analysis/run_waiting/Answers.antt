@@ -22,4 +22,4 @@ loop-pred-smaller c =
     less_work c.args.program.now (map row_seen c.loop-pred.rows) c.loop-pred.waiting c.take.new.self c.in-Some.pred (map row_seen c.turn.new.rows) c.turn.new.waiting c.in-Some.ensures.left c.in-Some.ensures.taken c.in_ok-turn.ensures.steps.ascends
 
 pub returns-clause-done : goal.returns-clause-done
-returns-clause-done c = let h = c.in_default in ?
+returns-clause-done c = all_done c.args.program.now (map row_seen c.loop-pred.rows) c.loop-pred.waiting c.loop-pred.invariant.settled c.in_default.ensures.taken
