@@ -2,20 +2,18 @@
 use Rattle.std.proofs.Common.{◌≡◌, ℕ, zero, suc, ◌+◌, ◌<◌, ◌≤◌, Bool, true, false, cond, ◌||◌, List, [], ◌∷◌, ◌++◌, length, take, get_or, refl, ap, sym, ◌∙◌, subst, arith}
 use Rattle.std.proofs.lemmas.Bool.{false≢true, or_parts, or_right, false_from_ne_true}
 use Rattle.std.proofs.lemmas.Bool.Decides.{nat_tests}
-use Rattle.std.proofs.lemmas.List.{append-nil, get_or-set_same, get_or-set_other, length-set, set-get_or, get_or_read}
+use Rattle.std.proofs.lemmas.List.{append-nil, get_or_read}
 use Rattle.std.proofs.lemmas.List.Elements.{filter-append}
 use Rattle.std.proofs.lemmas.List.Folds.{list_any_more}
-use Rattle.std.specs.Prelude.{◌==◌, slice_index_or, slice_set, filter, Contains}
+use Rattle.std.specs.Prelude.{◌==◌, slice_index_or, filter, Contains}
 use Rattle.std.specs.List.{list_any}
-use Rattle.term_core.specs.declared.terms.Term.{Term}
 use Rattle.prog_data.specs.declared.goals.Goal.{Goal}
 use Rattle.prog_data.specs.declared.goals.Goal as goal
-use Rattle.prog_data.specs.declared.goals.Builtin.{Builtin}
 use Rattle.prog_data.specs.declared.programs.Clause.{Clause}
 use Rattle.prog_data.specs.declared.programs.Pred.{Pred}
 use Rattle.prog_data.specs.declared.programs.Program.{Program}
 use Rattle.prog_data.specs.Goals.{no_pred, pred_of}
-use Rattle.prog_data.proofs.GoalFolds.{fold-True, fold-Fail, fold-Cut, fold-Call, fold-Builtin, fold-Conj, fold-Disj, fold-IfElse, fold-Not, fold-Exit}
+use Rattle.prog_data.proofs.GoalFolds.{fold-Conj, fold-Disj, fold-IfElse}
 use Rattle.name_order.specs.Relations.{names_from, names_below}
 use Rattle.fixpoint_analyser.specs.Ascent.{calls_step, calls, callers_of}
 use Rattle.fixpoint_analyser.specs.Callers.{stands_in, ends_in, ending_in, ending_where, HasAdded, HasCallers}
@@ -62,9 +60,6 @@ ending_both false b ns n = refl
 
 -- adding
 
-pub added_none : (lists : List (List ℕ)) (n : ℕ) (passes : ℕ → Bool) → ((q : ℕ) → q < length lists → passes q ≡ false) → HasAdded lists lists n passes
-added_none lists n passes none = record { count = refl; each = λ q lt. ap (λ b. ending_where b (slice_index_or lists q []) n) (sym (none q lt)) }
-
 pub added_both : (a b c : List (List ℕ)) (n : ℕ) (first second : ℕ → Bool) → HasAdded a b n first → HasAdded b c n second → HasAdded a c n (λ q. first q || second q)
 added_both a b c n first second h k = record {
   count = k.count ∙ h.count;
@@ -75,41 +70,7 @@ added_both a b c n first second h k = record {
 pub added_same : (a b : List (List ℕ)) (n : ℕ) (first second : ℕ → Bool) → ((q : ℕ) → first q ≡ second q) → HasAdded a b n first → HasAdded a b n second
 added_same a b n first second same h = record { count = h.count; each = λ q lt. h.each q lt ∙ ap (λ t. ending_where t (slice_index_or a q []) n) (same q) }
 
--- adding to one list
-
-pub added_past : (lists : List (List ℕ)) (called n : ℕ) → length lists ≤ called → HasAdded lists lists n (λ q. q == called)
-added_past lists called n le = added_none lists n (λ q. q == called) (λ q lt. grind (arith, nat_tests, le, lt))
-
-added_there : (lists : List (List ℕ)) (called n : ℕ) → called < length lists → HasAdded lists (slice_set lists called (ending_in (slice_index_or lists called []) n)) n (λ q. q == called)
-added_there lists called n lt = record { count = length-set lists called (ending_in (slice_index_or lists called []) n); each = λ q in_lists. by_test q (q == called) refl }
-  where
-    by_test : (q : ℕ) (b : Bool) → (q == called) ≡ b → slice_index_or (slice_set lists called (ending_in (slice_index_or lists called []) n)) q [] ≡ ending_where (q == called) (slice_index_or lists q []) n
-    by_test q true e =
-        let same : called ≡ q = grind (arith, nat_tests, e) in
-        subst (λ q. slice_index_or (slice_set lists called (ending_in (slice_index_or lists called []) n)) q [] ≡ ending_in (slice_index_or lists q []) n) same (get_or-set_same lists called (ending_in (slice_index_or lists called []) n) [] lt)
-        ∙ ap (λ b. ending_where b (slice_index_or lists q []) n) (sym e)
-    by_test q false e =
-        get_or-set_other lists called q (ending_in (slice_index_or lists called []) n) [] (λ same. let f : (q == called) ≡ true = grind (arith, nat_tests, same) in false≢true (sym e ∙ f))
-        ∙ ap (λ b. ending_where b (slice_index_or lists q []) n) (sym e)
-
--- the list has the number already
-pub added_had : (lists : List (List ℕ)) (called n : ℕ) (x : List ℕ) → called < length lists → x ≡ get_or lists called x → ends_in x n ≡ true → HasAdded lists lists n (λ q. q == called)
-added_had lists called n x lt read e =
-    let is : slice_index_or lists called [] ≡ x = sym (get_or_read lists called x lt read []) in
-    subst (λ new. HasAdded lists new n (λ q. q == called)) (ap (slice_set lists called) (ending_had (slice_index_or lists called []) n (ap (λ ns. ends_in ns n) is ∙ e)) ∙ set-get_or lists called []) (added_there lists called n lt)
-
--- it gets it
-pub added_pushed : (lists new : List (List ℕ)) (called n : ℕ) (x y : List ℕ) → called < length lists → x ≡ get_or lists called x → ends_in x n ≡ false → y ≡ x ++ n ∷ [] → new ≡ slice_set lists called y → HasAdded lists new n (λ q. q == called)
-added_pushed lists new called n x y lt read e is_y is_new =
-    let is : slice_index_or lists called [] ≡ x = sym (get_or_read lists called x lt read []) in
-    subst (λ new. HasAdded lists new n (λ q. q == called))
-    (ap (slice_set lists called) (ending_new (slice_index_or lists called []) n (ap (λ ns. ends_in ns n) is ∙ e) ∙ ap (λ ns. ns ++ n ∷ []) is ∙ sym is_y) ∙ sym is_new)
-    (added_there lists called n lt)
-
 -- goals
-
-pub calls_Call : (g : Goal) (p : ℕ) (ts : List Term) → g ≡ goal.Call p ts → (q : ℕ) → (q == p) ≡ calls q g
-calls_Call g p ts is q = sym (ap (calls q) is ∙ fold-Call Bool (calls_step q) p ts)
 
 pub calls_Conj : (g a b x y : Goal) → g ≡ goal.Conj a b → x ≡ a → y ≡ b → (q : ℕ) → (calls q x || calls q y) ≡ calls q g
 calls_Conj g a b x y is e f q = (λ i. calls q (e i) || calls q (f i)) ∙ sym (ap (calls q) is ∙ fold-Conj Bool (calls_step q) a b)
@@ -124,24 +85,6 @@ or_assoc false b c = refl
 pub calls_IfElse : (g c a b z x y : Goal) → g ≡ goal.IfElse c a b → z ≡ c → x ≡ a → y ≡ b → (q : ℕ) → ((calls q z || calls q x) || calls q y) ≡ calls q g
 calls_IfElse g c a b z x y is d e f q =
     (λ i. (calls q (d i) || calls q (e i)) || calls q (f i)) ∙ or_assoc (calls q c) (calls q a) (calls q b) ∙ sym (ap (calls q) is ∙ fold-IfElse Bool (calls_step q) c a b)
-
-pub calls_Not : (g a x : Goal) → g ≡ goal.Not a → x ≡ a → (q : ℕ) → calls q x ≡ calls q g
-calls_Not g a x is e q = ap (calls q) e ∙ sym (ap (calls q) is ∙ fold-Not Bool (calls_step q) a)
-
-pub calls_True : (g : Goal) → g ≡ goal.True → (q : ℕ) → calls q g ≡ false
-calls_True g is q = ap (calls q) is ∙ fold-True Bool (calls_step q)
-
-pub calls_Fail : (g : Goal) → g ≡ goal.Fail → (q : ℕ) → calls q g ≡ false
-calls_Fail g is q = ap (calls q) is ∙ fold-Fail Bool (calls_step q)
-
-pub calls_Cut : (g : Goal) → g ≡ goal.Cut → (q : ℕ) → calls q g ≡ false
-calls_Cut g is q = ap (calls q) is ∙ fold-Cut Bool (calls_step q)
-
-pub calls_Builtin : (g : Goal) (b : Builtin) (ts : List Term) → g ≡ goal.Builtin b ts → (q : ℕ) → calls q g ≡ false
-calls_Builtin g b ts is q = ap (calls q) is ∙ fold-Builtin Bool (calls_step q) b ts
-
-pub calls_Exit : (g : Goal) → g ≡ goal.Exit → (q : ℕ) → calls q g ≡ false
-calls_Exit g is q = ap (calls q) is ∙ fold-Exit Bool (calls_step q)
 
 -- clauses
 
@@ -202,9 +145,6 @@ module _ (passes : ℕ → Bool) where
           ∙ ap (λ b. filter passes (names_below k) ++ cond b (k ∷ []) []) (sym e)
       by_test false e = sym (append-nil (filter passes (names_below k))) ∙ ap (λ b. filter passes (names_below k) ++ cond b (k ∷ []) []) (sym e)
 
-pub callers_none : (preds : List Pred) (lists : List (List ℕ)) → length lists ≡ length preds → ((q : ℕ) → slice_index_or lists q [] ≡ []) → HasCallers preds 0 lists
-callers_none preds lists count empty = record { count = count; each = λ q lt. empty q }
-
 pub callers_turn : (preds : List Pred) (k : ℕ) (old new : List (List ℕ)) (pred : Pred) (clauses : List Clause) → k < length preds → pred ≡ get_or preds k pred → clauses ≡ pred.clauses →
     HasCallers preds k old → HasAdded old new k (some_calls clauses) → HasCallers preds (k + 1) new
 callers_turn preds k old new pred clauses lt read is had added = record {
@@ -229,11 +169,3 @@ not_calling program p q lt e clause has =
     false_from_ne_true (some_calls (pred_of program p).clauses q)
     (λ f. false≢true (sym e ∙ standing (λ p. some_calls (pred_of program p).clauses q) 0 (length program.preds) p (omega arith) (omega (arith, lt)) f)) in
     none_passes (λ clause. calls q clause.body) (pred_of program p).clauses none clause has.0 has.1 has.2
-
--- lists that are empty
-
-pub empty_pushed : (lists : List (List ℕ)) → ((q : ℕ) → slice_index_or lists q [] ≡ []) → (q : ℕ) → slice_index_or (lists ++ [] ∷ []) q [] ≡ []
-empty_pushed [] h zero = refl
-empty_pushed [] h (suc q) = refl
-empty_pushed (x ∷ lists) h zero = h 0
-empty_pushed (x ∷ lists) h (suc q) = empty_pushed lists (λ q. h (suc q)) q

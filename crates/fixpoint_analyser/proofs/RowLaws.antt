@@ -1,7 +1,6 @@
 -- Stored rows, and values that are joined in their places.
-use Rattle.std.proofs.Common.{◌≡◌, ◌↔◌, ℕ, zero, suc, ◌+◌, ◌<◌, ◌≤◌, Bool, true, false, ◌&&◌, List, [], ◌∷◌, ◌++◌, length, map, drop, get_or, refl, ap, sym, ◌∙◌, subst, arith}
-use Rattle.std.proofs.lemmas.Bool.{false≢true, true≢false}
-use Rattle.std.proofs.lemmas.List.{map-append, replicate-append-replicate, drop_more, drop_all, length-map, set-get_or, get_or_default}
+use Rattle.std.proofs.Common.{◌≡◌, ℕ, zero, suc, ◌+◌, ◌<◌, ◌≤◌, Bool, true, false, ◌&&◌, List, [], ◌∷◌, ◌++◌, length, map, get_or, refl, ap, sym, ◌∙◌, subst, arith}
+use Rattle.std.proofs.lemmas.List.{map-append, replicate-append-replicate, length-map, get_or_default}
 use Rattle.std.specs.Prelude.{slice_set, None, Some, IsTrue}
 use Rattle.prog_data.specs.declared.tables.Value.{Value}
 use Rattle.prog_data.specs.declared.tables.Row.{Row}
@@ -15,36 +14,6 @@ use Rattle.fixpoint_analyser.specs.Ascent.{nones, with_row, called_row, exited_r
 -- one more none
 pub nones_more : (k : ℕ) (vs new : List Value) (x : Value) → new ≡ vs ++ x ∷ [] → seen x ≡ None → map seen vs ≡ nones k → map seen new ≡ nones (k + 1)
 nones_more k vs new x is e had = ap (map seen) is ∙ map-append seen vs (x ∷ []) ∙ (λ i. had i ++ e i ∷ []) ∙ replicate-append-replicate k 1 None
-
--- a test place by place
-
-pub first_left : {A : Type 0} (xs : List A) (i : ℕ) (x : A) → i < length xs → x ≡ get_or xs i x → drop i xs ≡ x ∷ drop (i + 1) xs
-first_left xs i x lt read = drop_more xs i x lt ∙ ap (λ y. y ∷ drop (i + 1) xs) (sym read)
-
-module _ (left right : List Value) (i : ℕ) (all : Type 0) (had : LeqEach (map seen (drop i left)) (map seen (drop i right)) ↔ all) where
-  module _ (v w : Value) (in_left : i < length left) (read_left : v ≡ get_or left i v) (in_right : i < length right) (read_right : w ≡ get_or right i w) where
-    at_first : LeqEach (map seen (v ∷ drop (i + 1) left)) (map seen (w ∷ drop (i + 1) right)) ↔ all
-    at_first =
-        subst (λ xs. LeqEach (map seen xs) (map seen (w ∷ drop (i + 1) right)) ↔ all) (first_left left i v in_left read_left)
-        (subst (λ ys. LeqEach (map seen (drop i left)) (map seen ys) ↔ all) (first_left right i w in_right read_right) had)
-
-    pub leq_turn : Leq (seen v) (seen w) → LeqEach (map seen (drop (i + 1) left)) (map seen (drop (i + 1) right)) ↔ all
-    leq_turn leq = (λ h. at_first.0 (leq, h), λ a. (at_first.1 a).1)
-
-    pub leq_fails : (Leq (seen v) (seen w) → ⊥) → IsTrue false ↔ all
-    leq_fails other = (λ e. absurd (false≢true e), λ a. absurd (other (at_first.1 a).0))
-
-  pub leq_end : length left ≤ i → length right ≤ i → IsTrue true ↔ all
-  leq_end over_left over_right =
-      let none : LeqEach (map seen []) (map seen []) ↔ all =
-      subst (λ xs. LeqEach (map seen xs) (map seen []) ↔ all) (drop_all i left over_left) (subst (λ ys. LeqEach (map seen (drop i left)) (map seen ys) ↔ all) (drop_all i right over_right) had) in
-      (λ e. none.0 tt, λ a. refl)
-
-pub flag_fails : (flag : Bool) (more : Type 0) → flag ≡ false → IsTrue false ↔ (IsTrue flag × more)
-flag_fails flag more e = (λ f. absurd (false≢true f), λ h. absurd (true≢false (sym h.0 ∙ e)))
-
-pub flag_holds : (flag r : Bool) (more : Type 0) → flag ≡ true → IsTrue r ↔ more → IsTrue r ↔ (IsTrue flag × more)
-flag_holds flag r more e h = (λ f. (e, h.0 f), λ k. h.1 k.1)
 
 -- values joined in their places
 
@@ -127,6 +96,3 @@ pub row_written : (rows : List Row) (p : ℕ) (row : Row) → map row_seen (slic
 row_written [] p row = refl
 row_written (x ∷ rows) zero row = refl
 row_written (x ∷ rows) (suc p) row = ap (λ rs. row_seen x ∷ rs) (row_written rows p row)
-
-pub row_kept : (rows : List Row) (p : ℕ) (row : Row) → row ≡ get_or rows p row → slice_set rows p row ≡ rows
-row_kept rows p row read = ap (slice_set rows p) read ∙ set-get_or rows p row

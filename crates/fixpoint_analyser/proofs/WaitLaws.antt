@@ -1,19 +1,13 @@
 -- Flags and a queue of what waits; how many wait.
-use Rattle.std.proofs.Common.{◌≡◌, ℕ, zero, suc, ◌+◌, ◌<◌, ◌≤◌, Bool, true, false, ◌||◌, List, [], ◌∷◌, ◌++◌, length, drop, replicate, get_or, refl, ap, sym, ◌∙◌, subst, arith}
+use Rattle.std.proofs.Common.{◌≡◌, ℕ, zero, suc, ◌+◌, ◌<◌, ◌≤◌, Bool, true, false, ◌||◌, List, [], ◌∷◌, ◌++◌, length, get_or, refl, ap, sym, ◌∙◌, subst, arith}
 use Rattle.std.proofs.lemmas.Bool.{false≢true}
 use Rattle.std.proofs.lemmas.Bool.Decides.{nat_tests}
-use Rattle.std.proofs.lemmas.List.{drop_more, drop_all, length-set, set_comm, set-get_or, get_or-set_same, get_or-set_other}
+use Rattle.std.proofs.lemmas.List.{length-set, set_comm, set-get_or, get_or-set_same, get_or-set_other}
 use Rattle.std.proofs.lemmas.Option.{slice_get_read}
 use Rattle.std.specs.Prelude.{◌==◌, not, slice_get, slice_set, Some, MatchBool}
-use Rattle.fixpoint_analyser.specs.Callers.{stands_in}
 use Rattle.fixpoint_analyser.specs.Waits.{waits, number_waiting, IsQueue}
 
 -- flags
-
-pub none_waits : (n p : ℕ) → waits (replicate n false) p ≡ false
-none_waits zero p = refl
-none_waits (suc n) zero = refl
-none_waits (suc n) (suc p) = none_waits n p
 
 pub waits_there : (flags : List Bool) (p : ℕ) → waits flags p ≡ true → p < length flags
 waits_there [] p e = absurd (false≢true e)
@@ -56,9 +50,6 @@ waits_set flags p q lt = by_test (p == q) refl
 
 -- the queue
 
-pub none_queued : (n : ℕ) (queue : List ℕ) → queue ≡ [] → IsQueue (replicate n false) queue
-none_queued n queue e = subst (IsQueue (replicate n false)) (sym e) (λ p. none_waits n p)
-
 there : (flags : List Bool) (p : ℕ) → slice_get flags p ≡ Some false → p < length flags
 there [] p e = cc
 there (f ∷ fs) zero e = omega arith
@@ -73,36 +64,6 @@ queue_more flags (q ∷ queue) p off lt kept =
 
 pub pushed_queue : (flags : List Bool) (queue new : List ℕ) (p : ℕ) → slice_get flags p ≡ Some false → new ≡ queue ++ p ∷ [] → IsQueue flags queue → IsQueue (slice_set flags p true) new
 pushed_queue flags queue new p idle is kept = subst (IsQueue (slice_set flags p true)) (sym is) (queue_more flags queue p (waits_read flags p false (sym idle)) (there flags p idle) kept)
-
-pub popped_queue : (flags : List Bool) (queue new : List ℕ) (p : ℕ) → queue ≡ p ∷ new → IsQueue flags queue → (waits flags p ≡ true) × IsQueue (slice_set flags p false) new
-popped_queue flags queue new p is kept = subst (IsQueue flags) is kept
-
-pub empty_queue : (flags : List Bool) (queue : List ℕ) → queue ≡ [] → IsQueue flags queue → (p : ℕ) → waits flags p ≡ false
-empty_queue flags queue is kept = subst (IsQueue flags) is kept
-
--- several
-
-pub added_turn : (start old new : List Bool) (ns : List ℕ) (i n : ℕ) → i < length ns → n ≡ get_or ns i n → new ≡ slice_set old n true → length old ≡ length start →
-    ((p : ℕ) → p < length start → (waits old p || stands_in (drop i ns) p) ≡ (waits start p || stands_in ns p)) →
-    ((p : ℕ) → p < length start → (waits new p || stands_in (drop (i + 1) ns) p) ≡ (waits start p || stands_in ns p))
-added_turn start old new ns i n lt read is count had p in_start =
-    ap (λ fs. waits fs p || stands_in (drop (i + 1) ns) p) is
-    ∙ ap (λ b. b || stands_in (drop (i + 1) ns) p) (waits_set old n p (subst (λ k. p < k) (sym count) in_start))
-    ∙ or_assoc (waits old p) (n == p) (stands_in (drop (i + 1) ns) p)
-    ∙ ap (λ ms. waits old p || stands_in ms p) (sym (drop_more ns i n lt ∙ ap (λ m. m ∷ drop (i + 1) ns) (sym read)))
-    ∙ had p in_start
-  where
-    or_assoc : (a b c : Bool) → ((a || b) || c) ≡ (a || (b || c))
-    or_assoc true b c = refl
-    or_assoc false b c = refl
-
-pub added_end : (start now : List Bool) (ns : List ℕ) (i : ℕ) → length ns ≤ i → ((p : ℕ) → p < length start → (waits now p || stands_in (drop i ns) p) ≡ (waits start p || stands_in ns p)) →
-    (p : ℕ) → p < length start → waits now p ≡ (waits start p || stands_in ns p)
-added_end start now ns i le had p lt = or_false (waits now p) ∙ ap (λ ms. waits now p || stands_in ms p) (sym (drop_all i ns le)) ∙ had p lt
-  where
-    or_false : (a : Bool) → a ≡ (a || false)
-    or_false true = refl
-    or_false false = refl
 
 -- how many
 
