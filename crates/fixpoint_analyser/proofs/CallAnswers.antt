@@ -1,5 +1,5 @@
 -- What the code of a call that is joined knows, and what it has to show.
-use Rattle.std.proofs.Common.{◌≡◌, ℕ, ◌<◌, ◌≤◌, ◌+◌, Bool, true, false, ◌||◌, ◌&&◌, List, [], ◌∷◌, ◌++◌, length, map, take, get_or, refl, ap, sym, ◌∙◌, subst, arith, length-append}
+use Rattle.std.proofs.Common.{◌≡◌, ℕ, ◌<◌, ◌≤◌, ◌+◌, Bool, true, false, ◌||◌, ◌&&◌, List, [], ◌∷◌, ◌++◌, length, map, take, get_or, refl, ap, sym, ◌∙◌, subst}
 use Rattle.std.proofs.lemmas.Bool.{MatchBool-at_true, MatchBool-at_false}
 use Rattle.std.proofs.lemmas.List.{length-map, take_more, take_all}
 use Rattle.std.specs.Prelude.{◌==◌, MatchBool, Option}
@@ -11,17 +11,16 @@ use Rattle.prog_data.specs.declared.tables.Value.{Value}
 use Rattle.prog_data.specs.Values.{seen}
 use Rattle.name_order.specs.Relations.{order}
 use Rattle.goal_transfer.specs.declared.states.Reached.{Reached}
-use Rattle.goal_transfer.specs.Transfer.{ReachedCall}
 use Rattle.goal_transfer.specs.Range.{CallGiven}
 use Rattle.goal_transfer.specs.States.{exits_seen, call_seen}
-use Rattle.goal_transfer.specs.Tables.{Facts, row_seen, facts_of, exits_of, IsReached, TableLeq}
+use Rattle.goal_transfer.specs.Tables.{row_seen, facts_of, exits_of, IsReached}
 use Rattle.type_domain.specs.Laws.{AreOrdered}
 use Rattle.fixpoint_analyser.specs.Ascent.{with_call, callers_of}
 use Rattle.fixpoint_analyser.specs.Laws.{AllReach}
 use Rattle.fixpoint_analyser.specs.ReliedOn.{ReliedOn}
 use Rattle.fixpoint_analyser.specs.Callers.{stands_in}
 use Rattle.fixpoint_analyser.specs.Progress.{AreCallers, IsUnderWay, Steps, Wakes}
-use Rattle.fixpoint_analyser.proofs.RowOrder.{still_reached, all_still_reached}
+use Rattle.fixpoint_analyser.proofs.RowOrder.{all_still_reached}
 use Rattle.fixpoint_analyser.proofs.RowLaws.{row_at}
 use Rattle.fixpoint_analyser.proofs.ExitLaws.{exits_stay}
 use Rattle.fixpoint_analyser.proofs.Growth.{steps_itself, steps_same, steps_over}

@@ -1,25 +1,24 @@
 -- A clause that is run: it gives what every closed table has, and is then done or its predicate waits.
-use Rattle.std.proofs.Common.{◌≡◌, ◌⊎◌, inl, inr, ℕ, suc, ◌+◌, ◌<◌, ◌≤◌, Bool, true, false, List, length, map, refl, ap, sym, ◌∙◌, subst, arith}
+use Rattle.std.proofs.Common.{◌≡◌, ◌⊎◌, inl, inr, ℕ, ◌+◌, ◌<◌, ◌≤◌, Bool, true, false, List, length, refl, ap, sym, ◌∙◌, subst, arith}
 use Rattle.std.proofs.lemmas.Bool.Decides.{nat_tests}
 use Rattle.std.proofs.lemmas.Option.{none-some, same_Some}
-use Rattle.std.specs.Prelude.{◌==◌, nat_lt, slice_get, Option, None, Some, Contains, IsTrue}
+use Rattle.std.specs.Prelude.{nat_lt, slice_get, Option, None, Some, Contains, IsTrue}
 use Rattle.std.specs.List.{AllByRecursion}
 use Rattle.prog_data.specs.declared.grammars.Grammar.{Grammar}
 use Rattle.prog_data.specs.declared.programs.Clause.{Clause}
 use Rattle.prog_data.specs.declared.programs.Program.{Program}
-use Rattle.prog_data.specs.declared.tables.Value.{Value}
 use Rattle.prog_data.specs.Goals.{pred_of}
 use Rattle.prog_data.specs.Values.{TypeValue}
 use Rattle.name_order.specs.Relations.{order}
 use Rattle.goal_transfer.specs.Transfer.{Exits, from_known, run_goal}
 use Rattle.goal_transfer.specs.Conditions.{narrowed_entry}
 use Rattle.goal_transfer.specs.Tables.{Facts, facts_of, exits_of, behind_head, ClauseEffect, effect_of, clause_effect, IsTable, IsReached, HasExit}
-use Rattle.fixpoint_analyser.specs.Ascent.{IsBelow, IsDoneFor, IsDone}
+use Rattle.fixpoint_analyser.specs.Ascent.{IsBelow, IsDoneFor}
 use Rattle.fixpoint_analyser.specs.ReliedOn.{ReliedOn}
 use Rattle.fixpoint_analyser.specs.Waits.{waits}
 use Rattle.fixpoint_analyser.specs.Progress.{GivesTheSame, IsFit, FirstSettled, IsSettled}
 use Rattle.fixpoint_analyser.proofs.StaysBelow.{stays_below}
-use Rattle.fixpoint_analyser.proofs.Places.{got_contains, got_at}
+use Rattle.fixpoint_analyser.proofs.Places.{got_at}
 
 -- what a clause gives by stored exits is what it gives by the table
 pub effect_read : (program : Program) (rows : List Facts) (p : ℕ) (clause : Clause) (exits : Exits) (entry : List TypeValue) → exits ≡ exits_of program (order program.grammar) rows → entry ≡ (facts_of rows p).entry →

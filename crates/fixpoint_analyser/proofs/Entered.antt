@@ -1,9 +1,9 @@
 -- The calls of entries, and the table from the first to the last moment.
-use Rattle.std.proofs.Common.{◌≡◌, ◌⊎◌, inl, inr, ℕ, zero, suc, ◌+◌, ◌<◌, ◌≤◌, Bool, true, false, ◌&&◌, List, [], ◌∷◌, length, map, get_or, refl, ap, sym, ◌∙◌, subst, arith, true≢false}
+use Rattle.std.proofs.Common.{◌≡◌, ℕ, zero, suc, ◌+◌, ◌<◌, ◌≤◌, Bool, true, false, List, [], ◌∷◌, length, map, get_or, refl, ap, sym, ◌∙◌, subst, arith, true≢false}
 use Rattle.std.proofs.lemmas.Bool.Decides.{nat_tests}
 use Rattle.std.proofs.lemmas.Bool.{and_from}
 use Rattle.std.proofs.lemmas.Option.{same_Some}
-use Rattle.std.specs.Prelude.{◌==◌, nat_lt, slice_get, slice_index_or, Option, Some, Contains, IsTrue}
+use Rattle.std.specs.Prelude.{nat_lt, slice_get, Option, Some, Contains, IsTrue}
 use Rattle.std.specs.List.{list_all}
 use Rattle.prog_data.specs.declared.conditions.Prop.{Prop}
 use Rattle.prog_data.specs.declared.conditions.Prop.TheVariants as prop
@@ -24,15 +24,15 @@ use Rattle.type_domain.specs.Laws.{AreOrdered}
 use Rattle.goal_transfer.specs.Conditions.{types_of}
 use Rattle.goal_transfer.specs.Range.{is_named}
 use Rattle.goal_transfer.specs.States.{exits_seen}
-use Rattle.goal_transfer.specs.Tables.{Facts, row_seen, facts_of, exits_of, IsTable, IsReached, entry_call, TableLeq, Least}
+use Rattle.goal_transfer.specs.Tables.{Facts, row_seen, facts_of, exits_of, IsTable, entry_call, TableLeq, Least}
 use Rattle.goal_transfer.proofs.Lengths.{both}
 use Rattle.fixpoint_analyser.specs.Ascent.{unreached, bottom, IsBelow, IsDone}
 use Rattle.fixpoint_analyser.specs.ReliedOn.{ReliedOn}
-use Rattle.fixpoint_analyser.specs.Progress.{IsUnderWay, Ascends, Steps, IsSettled, IsEntered}
+use Rattle.fixpoint_analyser.specs.Progress.{IsUnderWay, Steps, IsSettled, IsEntered}
 use Rattle.fixpoint_analyser.proofs.RowOrder.{still_reached}
 use Rattle.fixpoint_analyser.proofs.StaysBelow.{stays_below, done_is_least}
 use Rattle.fixpoint_analyser.proofs.TableStays.{table_stays}
-use Rattle.fixpoint_analyser.proofs.Places.{got_contains, got_at, pred_read}
+use Rattle.fixpoint_analyser.proofs.Places.{got_at, pred_read}
 use Rattle.fixpoint_analyser.proofs.Growth.{steps_itself, steps_over, settled_stays}
 
 -- entries are in range

@@ -11,12 +11,12 @@ use Rattle.prog_data.specs.Values.{TypeValue, seen}
 use Rattle.name_order.specs.Relations.{order}
 use Rattle.goal_transfer.specs.Laws.{ExitGiven}
 use Rattle.goal_transfer.specs.States.{list_seen, exits_seen}
-use Rattle.goal_transfer.specs.Tables.{Facts, row_seen, facts_of, exits_of, HasExit}
+use Rattle.goal_transfer.specs.Tables.{row_seen, facts_of, exits_of, HasExit}
 use Rattle.fixpoint_analyser.specs.Ascent.{with_exit, callers_of}
 use Rattle.fixpoint_analyser.specs.Laws.{AllExit}
 use Rattle.fixpoint_analyser.specs.ReliedOn.{ReliedOn}
 use Rattle.fixpoint_analyser.specs.Callers.{stands_in}
-use Rattle.fixpoint_analyser.specs.Progress.{AreCallers, IsUnderWay, Steps, Wakes}
+use Rattle.fixpoint_analyser.specs.Progress.{IsUnderWay, Steps, Wakes}
 use Rattle.fixpoint_analyser.proofs.ExitLaws.{exits_stay}
 use Rattle.fixpoint_analyser.proofs.Growth.{steps_same}
 use Rattle.fixpoint_analyser.proofs.CallSteps.{row_there}

@@ -1,8 +1,7 @@
 -- Steps of the analysis, one after the other.
-use Rattle.std.proofs.Common.{◌≡◌, ◌⊎◌, inl, inr, ℕ, suc, ◌+◌, ◌*◌, ◌<◌, ◌≤◌, Bool, true, false, List, length, map, refl, ap, sym, ◌∙◌, subst, arith}
+use Rattle.std.proofs.Common.{◌≡◌, ◌⊎◌, inl, inr, ℕ, suc, ◌+◌, ◌*◌, ◌<◌, ◌≤◌, Bool, true, List, length, map, refl, sym, ◌∙◌, subst, arith}
 use Rattle.std.proofs.Math.Nat.{mul-le-mul_right, suc-mul}
-use Rattle.std.specs.Prelude.{slice_get, Option, Some, Contains, IsTrue}
-use Rattle.prog_data.specs.declared.programs.Clause.{Clause}
+use Rattle.std.specs.Prelude.{Option, IsTrue}
 use Rattle.prog_data.specs.declared.programs.Program.{Program}
 use Rattle.prog_data.specs.declared.tables.Row.{Row}
 use Rattle.prog_data.specs.declared.tables.Value.{Value}
@@ -10,7 +9,7 @@ use Rattle.prog_data.specs.Goals.{pred_of}
 use Rattle.name_order.specs.Relations.{order}
 use Rattle.type_domain.specs.Laws.{AreOrdered}
 use Rattle.goal_transfer.specs.Tables.{Facts, row_seen, facts_of}
-use Rattle.fixpoint_analyser.specs.Ascent.{IsDoneFor, IsDone}
+use Rattle.fixpoint_analyser.specs.Ascent.{IsDone}
 use Rattle.fixpoint_analyser.specs.Waits.{waits, number_waiting}
 use Rattle.fixpoint_analyser.specs.Progress.{IsUnderWay, GivesTheSame, work_left, Ascends, Steps, FirstSettled, IsSettled}
 use Rattle.fixpoint_analyser.proofs.RowOrder.{table_itself, table_over}

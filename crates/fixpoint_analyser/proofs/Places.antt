@@ -1,8 +1,8 @@
 -- What stands in a list, by its place.
-use Rattle.std.proofs.Common.{◌≡◌, ℕ, zero, suc, ◌+◌, ◌<◌, ◌≤◌, Bool, true, false, List, [], ◌∷◌, ◌++◌, length, map, take, drop, get_or, refl, ap, sym, ◌∙◌, subst, arith}
+use Rattle.std.proofs.Common.{◌≡◌, ℕ, zero, suc, ◌<◌, ◌≤◌, List, [], ◌∷◌, ◌++◌, length, map, take, drop, get_or, refl, ap, sym, subst, arith}
 use Rattle.std.proofs.lemmas.List.{take_at}
 use Rattle.std.proofs.lemmas.Option.{none-some, same_Some}
-use Rattle.std.specs.Prelude.{slice_get, slice_index_or, None, Some, Contains}
+use Rattle.std.specs.Prelude.{slice_get, slice_index_or, Some, Contains}
 use Rattle.std.specs.List.{AllByRecursion}
 use Rattle.prog_data.specs.declared.programs.Pred.{Pred}
 use Rattle.prog_data.specs.Goals.{no_pred}

@@ -10,7 +10,6 @@ use Rattle.name_order.specs.Relations.{order}
 use Rattle.type_domain.specs.Laws.{AreOrdered}
 use Rattle.goal_transfer.specs.Tables.{Facts, row_seen, facts_of, TableLeq}
 use Rattle.fixpoint_analyser.specs.Ascent.{IsDone}
-use Rattle.fixpoint_analyser.specs.Heights.{table_height}
 use Rattle.fixpoint_analyser.specs.Waits.{waits, number_waiting}
 use Rattle.fixpoint_analyser.specs.Progress.{IsUnderWay, GivesTheSame, work_left, Ascends, Steps, IsSettled}
 use Rattle.fixpoint_analyser.proofs.RowOrder.{table_itself, table_over}

@@ -1,4 +1,4 @@
-use Rattle.std.proofs.Common.{true, false, ◌≡◌, ◌<◌, length, map, get_or, sym, ap, subst, ◌∙◌, true≢false}
+use Rattle.std.proofs.Common.{true, false, ◌≡◌, ◌<◌, length, map, sym, ap, subst, ◌∙◌, true≢false}
 use Rattle.std.specs.List.{list_all}
 use Rattle.prog_data.specs.Values.{seen}
 use Rattle.name_order.specs.Relations.{order}

@@ -1,4 +1,4 @@
-use Rattle.std.proofs.Common.{◌≡◌, ◌<◌, ◌≤◌, length, map, get_or, ap, sym, subst, ◌∙◌}
+use Rattle.std.proofs.Common.{◌≡◌, ◌≤◌, length, map, get_or, ap, sym, subst, ◌∙◌}
 use Rattle.prog_data.specs.Goals.{pred_of}
 use Rattle.goal_transfer.specs.Tables.{row_seen}
 use Rattle.fixpoint_analyser.proofs.Places.{pred_read}

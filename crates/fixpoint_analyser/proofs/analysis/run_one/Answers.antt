@@ -1,5 +1,4 @@
 use Rattle.std.proofs.Common.{◌≡◌, map, ap, sym, subst, ◌∙◌}
-use Rattle.std.specs.Prelude.{Some}
 use Rattle.prog_data.specs.Values.{seen}
 use Rattle.prog_data.specs.Goals.{pred_of}
 use Rattle.name_order.specs.Relations.{order}

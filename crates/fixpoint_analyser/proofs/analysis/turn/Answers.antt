@@ -1,5 +1,4 @@
-use Rattle.std.proofs.Common.{◌≡◌, map, sym, ap, ◌∙◌, true≢false}
-use Rattle.goal_transfer.specs.Tables.{row_seen, facts_of}
+use Rattle.std.proofs.Common.{sym, ap, ◌∙◌, true≢false}
 use Rattle.fixpoint_analyser.proofs.RowLaws.{row_at}
 use Rattle.fixpoint_analyser.proofs.CallAnswers.{row_in}
 use Rattle.fixpoint_analyser.proofs.Growth.{steps_itself}

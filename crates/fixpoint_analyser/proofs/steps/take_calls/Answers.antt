@@ -1,9 +1,7 @@
-use Rattle.std.proofs.Common.{map}
 use Rattle.name_order.specs.Relations.{order}
 use Rattle.goal_transfer.specs.Range.{CallGiven}
 use Rattle.goal_transfer.specs.States.{call_seen}
 use Rattle.fixpoint_analyser.specs.Laws.{AllReach}
-use Rattle.fixpoint_analyser.specs.ReliedOn.{ReliedOn}
 use Rattle.fixpoint_analyser.proofs.Places.{all_read}
 use Rattle.fixpoint_analyser.proofs.CallAnswers.{taken_none, taken_more, taken_all}
 use Rattle.fixpoint_analyser.proofs.steps.take_calls.Goals as goal
