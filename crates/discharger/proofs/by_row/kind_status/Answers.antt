@@ -1,0 +1,17 @@
+use Rattle.std.proofs.Common.{◌≡◌, true, length, sym, subst}
+use Rattle.std.specs.List.{list_all}
+use Rattle.goal_transfer.specs.Range.{is_named}
+use Rattle.discharger.proofs.Rows.{disjuncts_named, pre_named, post_named}
+use Rattle.discharger.proofs.by_row.kind_status.Goals as goal
+
+pub calls_status-requires : goal.calls_status-requires
+calls_status-requires c =
+    subst (λ ds. list_all (list_all (is_named (length c.args.rel.now.rules))) ds ≡ true) (sym c.as_slice.ensures) (disjuncts_named c.args.arity (length c.args.rel.now.rules) c.args.kind.now c.requires c.in-Calls.disjuncts c.in-Calls.is)
+
+pub success_status-requires-clause-pre : goal.success_status-requires-clause-pre
+success_status-requires-clause-pre c =
+    subst (λ ps. list_all (is_named (length c.args.rel.now.rules)) ps ≡ true) (sym c.as_slice.ensures) (pre_named c.args.arity (length c.args.rel.now.rules) c.args.kind.now c.requires c.in-Success.pre c.in-Success.post c.in-Success.is)
+
+pub success_status-requires-clause-post : goal.success_status-requires-clause-post
+success_status-requires-clause-post c =
+    subst (λ ps. list_all (is_named (length c.args.rel.now.rules)) ps ≡ true) (sym c.as_slice-2.ensures) (post_named c.args.arity (length c.args.rel.now.rules) c.args.kind.now c.requires c.in-Success.pre c.in-Success.post c.in-Success.is)
