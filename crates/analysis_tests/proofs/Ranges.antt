@@ -27,7 +27,7 @@ use Rattle.analysis_tests.specs.Small.{clause_of, pred_with, cond_of, program_of
 
 -- what is at a place of one or two
 
-at_one : {A : Type 0} (P : ℕ → A → Type 0) (a : A) → P 0 a → (k : ℕ) (x : A) → slice_get (a ∷ []) k ≡ Some x → P k x
+pub at_one : {A : Type 0} (P : ℕ → A → Type 0) (a : A) → P 0 a → (k : ℕ) (x : A) → slice_get (a ∷ []) k ≡ Some x → P k x
 at_one P a p zero x e = subst (P 0) (same_Some a x e) p
 at_one P a p (suc k) x e = absurd (none-some x e)
 
@@ -51,13 +51,13 @@ module _ (program : Program) where
       ∙ fold-Call Bool (goal_step program 1) p (term.Var 0 ∷ [])
       ∙ and_from (is_call_of program p (term.Var 0 ∷ [])) (is_term_of program 1 (term.Var 0) && true) is (ap (λ b. b && true) var_fits)
 
-  clause_fits : (body : Goal) → is_body_of program 1 body ≡ true → is_name_of program 0 ≡ true → list_all (is_clause_of program 1) (clause_of body ∷ []) ≡ true
+  pub clause_fits : (body : Goal) → is_body_of program 1 body ≡ true → is_name_of program 0 ≡ true → list_all (is_clause_of program 1) (clause_of body ∷ []) ≡ true
   clause_fits body fits named = ap (λ b. ((b && true) && (is_body_of program 1 body && is_name_of program 0)) && true) var_fits ∙ ap (λ b. (b && is_name_of program 0) && true) fits ∙ ap (λ b. b && true) named
 
 -- programs
 
 module _ (preds : List Pred) (conds : List Cond) (entries : List Entry) where
-  pred_fits : (p : ℕ) (clauses : List Clause) → list_all (is_clause_of (program_of preds conds entries) 1) clauses ≡ true → p ∷ [] ≡ conditions_of (program_of preds conds entries) p →
+  pub pred_fits : (p : ℕ) (clauses : List Clause) → list_all (is_clause_of (program_of preds conds entries) 1) clauses ≡ true → p ∷ [] ≡ conditions_of (program_of preds conds entries) p →
       IsPred (program_of preds conds entries) p (pred_with clauses p)
   pred_fits p clauses fit own =
       record {
@@ -70,10 +70,10 @@ module _ (preds : List Pred) (conds : List Cond) (entries : List Entry) where
         call_checks = record { kinds = refl; one_calls = omega arith; notes_rise = refl; one_mark = omega arith; marks_rise = refl };
       }
 
-  cond_fits : (c : ℕ) (kind : CondKind) → c < length preds → is_kind_of (pred_of (program_of preds conds entries) c).arity 10 kind ≡ true → IsCond (program_of preds conds entries) c (cond_of c kind)
+  pub cond_fits : (c : ℕ) (kind : CondKind) → c < length preds → is_kind_of (pred_of (program_of preds conds entries) c).arity 10 kind ≡ true → IsCond (program_of preds conds entries) c (cond_of c kind)
   cond_fits c kind there fits = record { id = refl; pred = there; place = refl; kind = fits }
 
-  program_fits : IsProgram empty_program → ((p : ℕ) (pred : Pred) → slice_get preds p ≡ Some pred → IsPred (program_of preds conds entries) p pred) →
+  pub program_fits : IsProgram empty_program → ((p : ℕ) (pred : Pred) → slice_get preds p ≡ Some pred → IsPred (program_of preds conds entries) p pred) →
       ((c : ℕ) (cond : Cond) → slice_get conds c ≡ Some cond → IsCond (program_of preds conds entries) c cond) → list_all (is_entry_of (program_of preds conds entries)) entries ≡ true → IsProgram (program_of preds conds entries)
   program_fits empty ps cs es =
       record { ops = refl; files = refl; preds = ps; conds = cs; claims = refl; grammar = empty.grammar; rules = refl; exports = refl; entries = es }

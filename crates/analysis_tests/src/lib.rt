@@ -2,12 +2,18 @@
 #![tactic(auto)]
 
 #[cfg(test)]
+mod bodies;
+#[cfg(test)]
 mod grammars;
+#[cfg(test)]
+mod long_lists;
 #[cfg(test)]
 mod name_relations;
 #[cfg(test)]
 mod small_programs;
 #[cfg(test)]
 mod statuses;
+#[cfg(test)]
+mod transfer;
 #[cfg(test)]
 mod values;

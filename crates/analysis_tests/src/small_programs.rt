@@ -44,7 +44,7 @@ pub(crate) fn one_term(alloc: Global) -> Result<Items<Term>, NoMemory>
     Ok(made)
 }
 
-fn clause_of(alloc: Global, body: Goal) -> Result<Clause, NoMemory>
+pub(crate) fn clause_of(alloc: Global, body: Goal) -> Result<Clause, NoMemory>
     ensures { IfOk result (λ c. c ≡ clause_of body) }
 {
     let head = one_term(alloc)?;
@@ -64,7 +64,7 @@ fn one_clause(alloc: Global, body: Goal) -> Result<Items<Clause>, NoMemory>
     Ok(made)
 }
 
-fn pred_with(alloc: Global, clauses: Items<Clause>, pred: u64) -> Result<Pred, NoMemory>
+pub(crate) fn pred_with(alloc: Global, clauses: Items<Clause>, pred: u64) -> Result<Pred, NoMemory>
     ensures { IfOk result (λ p. p ≡ pred_with clauses pred) }
 {
     let conds = Items::from_slice(alloc, &[pred])?;
@@ -78,7 +78,7 @@ fn pred_with(alloc: Global, clauses: Items<Clause>, pred: u64) -> Result<Pred, N
     })
 }
 
-fn cond_of(condition: u64, kind: CondKind) -> Cond
+pub(crate) fn cond_of(condition: u64, kind: CondKind) -> Cond
     ensures { result ≡ cond_of condition kind }
 {
     Cond {
@@ -89,7 +89,7 @@ fn cond_of(condition: u64, kind: CondKind) -> Cond
     }
 }
 
-fn program_of(
+pub(crate) fn program_of(
     alloc: Global,
     preds: Items<Pred>,
     conds: Items<Cond>,
