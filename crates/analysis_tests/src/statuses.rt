@@ -292,17 +292,18 @@ fn statuses_by(
     rel: &Relations,
     first: CondKind,
     second: CondKind,
-    rows: (Row, Row),
+    first_row: Row,
+    second_row: Row,
 ) -> Result<Items<Status>, NoMemory>
     requires grammar { rel.now ≡ basic_grammar }
     requires first { is_kind_of 1 10 first ≡ true }
     requires second { is_kind_of 1 10 second ≡ true }
-    requires row { IsRow (order rel.now) 1 (row_seen rows.0) }
-    requires other { IsRow (order rel.now) 1 (row_seen rows.1) }
+    requires row { IsRow (order rel.now) 1 (row_seen first_row) }
+    requires other { IsRow (order rel.now) 1 (row_seen second_row) }
 {
     bare_law();
     let program = bare(alloc, first, second)?;
-    let table = two_rows(alloc, rows.0, rows.1)?;
+    let table = two_rows(alloc, first_row, second_row)?;
     statuses(alloc, &program, &table)
 }
 
@@ -342,7 +343,7 @@ fn is_case(alloc: Global, rel: &Relations, case: &Case) -> Result<bool, NoMemory
     }
     let row = row_of(alloc, rel, &case.1)?;
     let other = row_of(alloc, rel, &Known::Called(TERM))?;
-    let found = statuses_by(alloc, rel, first, second, (row, other))?;
+    let found = statuses_by(alloc, rel, first, second, row, other)?;
     Ok(are_same(found.as_slice(), &[case.2, Status::Check]))
 }
 

@@ -204,9 +204,14 @@ pub(crate) fn kind_status(
     ensures { IfOk result (λ s. s ≡ status_by (kind_checked (order rel.now) arity (row_seen row.now) kind.now) (kind_false (order rel.now) (row_seen row.now) kind.now)) }
 {
     match kind {
-        CondKind::Calls(disjuncts) => Ok(calls_status(rel, row, disjuncts.as_slice())),
+        CondKind::Calls(disjuncts) => {
+            let disjuncts = disjuncts.as_slice();
+            Ok(calls_status(rel, row, disjuncts))
+        }
         CondKind::Success(pre, post) => {
-            success_status(alloc, rel, arity, row, pre.as_slice(), post.as_slice())
+            let pre = pre.as_slice();
+            let post = post.as_slice();
+            success_status(alloc, rel, arity, row, pre, post)
         }
         CondKind::Comp(_, property) => Ok(comp_status(row, *property)),
     }

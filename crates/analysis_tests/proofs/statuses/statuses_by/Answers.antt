@@ -12,4 +12,4 @@ pub statuses-requires-clause-closed : goal.statuses-requires-clause-closed
 statuses-requires-clause-closed c =
     subst (λ p. Closed p _) (sym c.in_ok-program.ensures)
     (subst (Closed (bare c.args.first c.args.second)) (sym c.in_ok-table.ensures)
-    (c.bare_law.ensures.closed c.args.first c.args.second (row_seen c.args.rows.0) (row_seen c.args.rows.1) (subst (λ g. IsRow (order g) 1 (row_seen c.args.rows.0)) c.requires.grammar c.requires.row) (subst (λ g. IsRow (order g) 1 (row_seen c.args.rows.1)) c.requires.grammar c.requires.other)))
+    (c.bare_law.ensures.closed c.args.first c.args.second (row_seen c.args.first_row) (row_seen c.args.second_row) (subst (λ g. IsRow (order g) 1 (row_seen c.args.first_row)) c.requires.grammar c.requires.row) (subst (λ g. IsRow (order g) 1 (row_seen c.args.second_row)) c.requires.grammar c.requires.other)))

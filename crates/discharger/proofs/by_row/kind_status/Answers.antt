@@ -6,12 +6,12 @@ use Rattle.discharger.proofs.by_row.kind_status.Goals as goal
 
 pub calls_status-requires : goal.calls_status-requires
 calls_status-requires c =
-    subst (λ ds. list_all (list_all (is_named (length c.args.rel.now.rules))) ds ≡ true) (sym c.as_slice.ensures) (disjuncts_named c.args.arity (length c.args.rel.now.rules) c.args.kind.now c.requires c.in-Calls.disjuncts c.in-Calls.is)
+    subst (λ ds. list_all (list_all (is_named (length c.args.rel.now.rules))) ds ≡ true) (sym c.as_slice-disjuncts.ensures) (disjuncts_named c.args.arity (length c.args.rel.now.rules) c.args.kind.now c.requires c.in-Calls.disjuncts c.in-Calls.is)
 
 pub success_status-requires-clause-pre : goal.success_status-requires-clause-pre
 success_status-requires-clause-pre c =
-    subst (λ ps. list_all (is_named (length c.args.rel.now.rules)) ps ≡ true) (sym c.as_slice.ensures) (pre_named c.args.arity (length c.args.rel.now.rules) c.args.kind.now c.requires c.in-Success.pre c.in-Success.post c.in-Success.is)
+    subst (λ ps. list_all (is_named (length c.args.rel.now.rules)) ps ≡ true) (sym c.as_slice-pre.ensures) (pre_named c.args.arity (length c.args.rel.now.rules) c.args.kind.now c.requires c.in-Success.pre c.in-Success.post c.in-Success.is)
 
 pub success_status-requires-clause-post : goal.success_status-requires-clause-post
 success_status-requires-clause-post c =
-    subst (λ ps. list_all (is_named (length c.args.rel.now.rules)) ps ≡ true) (sym c.as_slice-2.ensures) (post_named c.args.arity (length c.args.rel.now.rules) c.args.kind.now c.requires c.in-Success.pre c.in-Success.post c.in-Success.is)
+    subst (λ ps. list_all (is_named (length c.args.rel.now.rules)) ps ≡ true) (sym c.as_slice-post.ensures) (post_named c.args.arity (length c.args.rel.now.rules) c.args.kind.now c.requires c.in-Success.pre c.in-Success.post c.in-Success.is)
