@@ -1,6 +1,7 @@
 -- The status of a condition by its predicate's row, and the names that its properties ask for.
-use Rattle.std.proofs.Common.{◌≡◌, ℕ, zero, suc, ◌<◌, Bool, true, ◌&&◌, List, [], ◌∷◌, length, map, get_or, refl, ap, sym, ◌∙◌, subst}
+use Rattle.std.proofs.Common.{◌≡◌, ℕ, zero, suc, ◌+◌, ◌<◌, Bool, true, ◌&&◌, List, [], ◌∷◌, ◌++◌, length, map, drop, get_or, refl, ap, sym, ◌∙◌, subst, append_assoc}
 use Rattle.std.proofs.lemmas.Bool.{and_from}
+use Rattle.std.proofs.lemmas.List.{at_drop_more}
 use Rattle.std.proofs.lemmas.Option.{none-some, same_Some, slice_get_read}
 use Rattle.std.specs.Prelude.{nat_lt, slice_get, slice_index_or, Option, None, Some}
 use Rattle.std.specs.List.{list_all}
@@ -104,3 +105,13 @@ module _ (program : Program) (rows : List Row) (cond : Cond) where
   by_none e =
       unreached (order program.grammar) (pred_of program cond.pred).arity cond.kind
       ∙ ap (λ r. by_facts (order program.grammar) (pred_of program cond.pred).arity r cond.kind) (absent_facts rows cond.pred e)
+
+-- the turn of the loop over conditions
+pub status_turn : (f : Cond → Status) (made new : List Status) (s : Status) (conds : List Cond) (i : ℕ) (cond : Cond) (all : List Status) → i < length conds → cond ≡ get_or conds i cond → new ≡ made ++ s ∷ [] → s ≡ f cond →
+    made ++ map f (drop i conds) ≡ all → new ++ map f (drop (i + 1) conds) ≡ all
+status_turn f made new s conds i cond all lt read is same had =
+    ap (λ ss. ss ++ map f (drop (i + 1) conds)) is
+    ∙ append_assoc made (s ∷ []) (map f (drop (i + 1) conds))
+    ∙ ap (λ t. made ++ t ∷ map f (drop (i + 1) conds)) same
+    ∙ ap (λ ss. made ++ ss) (sym (at_drop_more (map f) conds i cond lt ∙ ap (λ x. f x ∷ map f (drop (i + 1) conds)) (sym read)))
+    ∙ had

@@ -5,7 +5,7 @@ ghost use Rattle.prog_data.specs.declared.conditions.CondKind.TheVariants as kin
 ghost use Rattle.prog_data.specs.Ranges.{is_kind_of};
 ghost use Rattle.prog_data.specs.Values.{seen};
 ghost use Rattle.name_order.specs.Relations.{order};
-ghost use Rattle.goal_transfer.specs.Conditions.{all_implied, some_excluded};
+ghost use Rattle.goal_transfer.specs.Conditions.{all_set, all_implied, some_excluded};
 ghost use Rattle.goal_transfer.specs.Range.{is_named};
 ghost use Rattle.goal_transfer.specs.Statuses.{status_by, comp_checked, kind_checked, kind_false};
 ghost use Rattle.goal_transfer.specs.Tables.{row_seen};
@@ -90,6 +90,17 @@ fn never_exits(row: &Row) -> bool
     !row.exits
 }
 
+// Whether some value is none, or Post holds of all terms of the values.
+fn met_checked(rel: &Relations, met: &[Value], post: &[Prop]) -> bool
+    requires { list_all (is_named (length rel.now.rules)) post.now ≡ true }
+    ensures { result ≡ (not (all_set (map seen met.now)) || all_implied (order rel.now) (map seen met.now) post.now) }
+{
+    if !all_set(met) {
+        return true;
+    }
+    all_implied(rel, met, post)
+}
+
 // Whether no exit comes, or none of a call of which Pre holds, or Post holds of each of these.
 fn success_checked(
     alloc: Global,
@@ -108,10 +119,7 @@ fn success_checked(
     }
     let types = types_of(alloc, rel, arity, pre)?;
     let met = met_each(alloc, rel, row.exit.as_slice(), types.as_slice())?;
-    if !all_set(met.as_slice()) {
-        return Ok(true);
-    }
-    Ok(all_implied(rel, met.as_slice(), post))
+    Ok(met_checked(rel, met.as_slice(), post))
 }
 
 // Whether calls are reached, and Pre holds of each.
