@@ -63,4 +63,4 @@ control = program_of (pred_with clauses 0 ∷ []) (cond_of 0 nnegint_success ∷
 pub record BodyLaws : Type 0 where
   pub builtins : (b : BuiltinName) → is_typed b ≡ true → is_body_of empty_program 2 (builtin_of b) ≡ true
   pub empty : IsProgram empty_program
-  pub control : IsProgram control
+  pub control_range : IsProgram control

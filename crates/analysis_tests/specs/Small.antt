@@ -90,7 +90,7 @@ pub record BareLaws : Type 0 where
 
 -- the two programs are in range, and their tables closed
 pub record RequestLaws : Type 0 where
-  pub chain : IsProgram chain
+  pub chain_range : IsProgram chain
   pub chain_closed : Closed chain chain_rows
-  pub fact : IsProgram fact
+  pub fact_range : IsProgram fact
   pub fact_closed : Closed fact fact_rows

@@ -9,4 +9,4 @@ returns c =
     let empty = c.program_parts_law.ensures.empty in
     let given = c.given_law.ensures basic_grammar empty.grammar in
     let ordered = c.order_law.ensures (order basic_grammar) in
-    record { chain = chain_fits empty; chain_closed = chain_closed given ordered; fact = fact_fits empty; fact_closed = fact_closed given ordered }
+    record { chain_range = chain_fits empty; chain_closed = chain_closed given ordered; fact_range = fact_fits empty; fact_closed = fact_closed given ordered }
