@@ -1,9 +1,19 @@
-//! Relations of grammar names, values of terms: what no clause says.
+//! Relations of grammar names, values of terms, transfer and statuses: what no clause says.
 #![tactic(auto)]
 
 #[cfg(test)]
+mod bodies;
+#[cfg(test)]
 mod grammars;
 #[cfg(test)]
+mod long_lists;
+#[cfg(test)]
 mod name_relations;
+#[cfg(test)]
+mod small_programs;
+#[cfg(test)]
+mod statuses;
+#[cfg(test)]
+mod transfer;
 #[cfg(test)]
 mod values;
