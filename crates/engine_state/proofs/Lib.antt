@@ -1,9 +1,11 @@
 mod BelowLaws
 mod ChoiceLaws
 mod CutLaws
+mod EachLaws
 mod ExitLaws
 mod FewestLaws
 mod FrameLaws
+mod GivenLaws
 mod GoalInstances
 mod GroundLaws
 mod LinkLaws
@@ -11,3 +13,4 @@ mod MarkLaws
 mod MomentLaws
 mod NoteLaws
 mod PointLaws
+mod PointMoments

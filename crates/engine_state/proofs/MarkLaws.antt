@@ -34,7 +34,7 @@ module _ (height : ℕ) where
     others = others;
   }
 
-  found_is : (points : List code.ChoicePoint) (place : ℕ) (d : code.ChoicePoint) (at : IsFound height points place) → get_or points place d ≡ at.found
+  pub found_is : (points : List code.ChoicePoint) (place : ℕ) (d : code.ChoicePoint) (at : IsFound height points place) → get_or points place d ≡ at.found
   found_is points place d at = ap (λ ps. get_or ps place d) at.is ∙ get_or_at at.older at.found at.newer d place at.place_is
 
   -- exits

@@ -10,6 +10,6 @@ mod points;
 mod tasks;
 
 pub use laws::{
-    below_law, bound_law, choices_law, cut_law, entered_law, exit_law, moments_law, new_point_law,
-    notes_law, steps_law,
+    below_law, bound_law, choices_law, cut_law, entered_law, exit_law, mark_law, moments_give_law,
+    moments_law, new_point_law, notes_law, steps_law,
 };

@@ -24,6 +24,8 @@ pub(crate) enum Task<'p> {
     Runs(&'p Goal, u64, u64, Place),
     /// Choices are cut to a height.
     Cuts(u64),
+    /// Failure, with the height and the place of a goal.
+    Fails(u64, Place),
     Leaves(Exit),
 }
 
