@@ -8,6 +8,7 @@ mod FrameLaws
 mod GivenLaws
 mod GoalInstances
 mod GroundLaws
+mod LetGoLaws
 mod LinkLaws
 mod MarkLaws
 mod MomentLaws

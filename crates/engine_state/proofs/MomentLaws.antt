@@ -54,12 +54,12 @@ module _ (program : Program) where
   placed_noted cells notes other [] le are = tt
   placed_noted cells notes other (l ∷ older) le are = (are.0, are.1, le, are.3, are.4)
 
-  used_within : (cells notes : ℕ) (links : List code_link.Link) → ArePlaced program cells notes links → notes_used links ≤ notes
+  pub used_within : (cells notes : ℕ) (links : List code_link.Link) → ArePlaced program cells notes links → notes_used links ≤ notes
   used_within cells notes [] are = omega arith
   used_within cells notes (l ∷ older) are = are.2
 
   -- the newest links are let go
-  placed_left : (cells notes n : ℕ) (links : List code_link.Link) → ArePlaced program cells notes links → ArePlaced program cells notes (drop n links)
+  pub placed_left : (cells notes n : ℕ) (links : List code_link.Link) → ArePlaced program cells notes links → ArePlaced program cells notes (drop n links)
   placed_left cells notes zero links are = are
   placed_left cells notes (suc n) [] are = tt
   placed_left cells notes (suc n) (l ∷ older) are =

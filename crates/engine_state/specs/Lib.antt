@@ -1,5 +1,6 @@
 pub mod Engines
 pub mod Fewest
+pub mod Kept
 pub mod Laws
 pub mod Moments
 pub mod Newest

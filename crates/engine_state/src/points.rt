@@ -5,8 +5,8 @@ ghost use Rattle.term_heap.specs.Changes.{Change};
 ghost use Rattle.engine_state.specs.declared.tasks.Link.{Link};
 ghost use Rattle.engine_state.specs.Stacks.{width, height_of, shortened, cut_points, IsTaken};
 ghost use Rattle.engine_state.specs.Views.{as_alternative, as_point, as_points};
-ghost use Rattle.engine_state.specs.Newest.{IsNewest, held_links};
-ghost use Rattle.engine_state.specs.Moments.{HasMoments, MayBecome, GoesBack};
+ghost use Rattle.engine_state.specs.Newest.{IsNewest};
+ghost use Rattle.engine_state.specs.Moments.{links_held, notes_held, HasMoments, MayBecome, GoesBack};
 
 use crate::tasks::{Exit, Row};
 use term_core::NoMemory;
@@ -67,11 +67,21 @@ pub(crate) fn newest(points: &[ChoicePoint]) -> Option<ChoicePoint>
 
 /// How many links the choice points hold.
 pub(crate) fn held_links(points: &[ChoicePoint]) -> u64
-    ensures { (notes : List ℕ) → result ≡ held_links (as_points notes points.now) }
+    ensures { result ≡ links_held (reverse points.now) }
 {
     match newest(points) {
         None => 0,
         Some(point) => point.links,
+    }
+}
+
+/// How many notes the choice points hold.
+pub(crate) fn held_notes(points: &[ChoicePoint]) -> u64
+    ensures { result ≡ notes_held (reverse points.now) }
+{
+    match newest(points) {
+        None => 0,
+        Some(point) => point.notes,
     }
 }
 
