@@ -1,7 +1,9 @@
 mod BelowLaws
 mod ChoiceLaws
+mod ControlLaws
 mod CutLaws
 mod EachLaws
+mod EngineLaws
 mod ExitLaws
 mod FewestLaws
 mod FrameLaws
@@ -12,6 +14,7 @@ mod LetGoLaws
 mod LinkLaws
 mod MarkLaws
 mod MomentLaws
+mod MoveLaws
 mod NoteLaws
 mod PointLaws
 mod PointMoments

@@ -70,6 +70,7 @@ module _ (notes : List ℕ) where
           first = ap (λ links. chain links k) is_new ∙ chain_first (as_link notes l) older k is_number ∙ ap (λ tasks. as_task notes l.task ∷ tasks) (kept_chain m old l.next enough (omega arith));
           stay = λ j le. ap (λ links. chain links j) is_new ∙ chain_older (as_link notes l ∷ []) older j (omega (arith, le, size)) ∙ kept_chain m old j enough (omega (arith, le));
           number = number ∙ sym (length_links new);
+          above = omega (arith, is_number, size);
         }
 
 -- links that lead down

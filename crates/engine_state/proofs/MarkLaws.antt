@@ -2,7 +2,7 @@
 use Rattle.std.proofs.Common.{◌≡◌, ◌<◌, ℕ, zero, suc, ◌+◌, List, [], ◌∷◌, ◌++◌, map, length, take, drop, reverse, get_or, refl, sym, ap, subst, ◌∙◌, arith}
 use Rattle.std.specs.Prelude.{if◌then◌else◌, slice_set}
 use Rattle.std.proofs.lemmas.Bool.{eq-eqb, ne_eqb}
-use Rattle.std.proofs.lemmas.List.{append_assoc, append-nil, reverse-append, map-append, take-append-drop, length-take-le, drop_more, get_or_at, set_at}
+use Rattle.std.proofs.lemmas.List.{length-append, append_assoc, append-nil, reverse-append, map-append, take-append-drop, length-take-le, drop_more, get_or_at, set_at}
 use Rattle.std.specs.List.{AllByRecursion}
 use Rattle.engine_state.specs.declared.points.ChoicePoint as code
 use Rattle.engine_state.specs.Engines.{ChoicePoint}
@@ -79,6 +79,9 @@ module _ (height : ℕ) where
 
   pub found_is : (points : List code.ChoicePoint) (place : ℕ) (d : code.ChoicePoint) (at : IsFound height points place) → get_or points place d ≡ at.found
   found_is points place d at = ap (λ ps. get_or ps place d) at.is ∙ get_or_at at.older at.found at.newer d place at.place_is
+
+  pub found_within : (points : List code.ChoicePoint) (place : ℕ) (at : IsFound height points place) → place < length points
+  found_within points place at = omega (arith, ap length at.is, length-append at.older (at.found ∷ at.newer), at.place_is)
 
   -- exits
 

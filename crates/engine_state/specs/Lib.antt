@@ -3,7 +3,9 @@ pub mod Fewest
 pub mod Kept
 pub mod Laws
 pub mod Moments
+pub mod Moves
 pub mod Newest
 pub mod Notes
 pub mod Stacks
+pub mod Stages
 pub mod Views

@@ -1,6 +1,7 @@
 -- What holds of links and choice points now, and at the moment of each choice point: the cells, links and notes that they name were there.
 -- The headline does not rest on this file.
 use Rattle.std.specs.Prelude.{◌≡◌, ◌≤◌, ◌<◌, ◌+◌, ◌-◌, ℕ, ◌==◌, Bool, true, false, List, [], ◌∷◌, ◌++◌, map, drop, reverse, length, Option, None, Some, ⊤}
+use Rattle.prog_data.specs.declared.goals.Goal.{Goal}
 use Rattle.prog_data.specs.declared.programs.Program.{Program}
 use Rattle.prog_data.specs.Goals.{pred_of}
 use Rattle.prog_data.specs.Ranges.{is_goal_of, is_pred_of}
@@ -56,9 +57,13 @@ module _ (program : Program) where
     pub count : args.count ≡ (pred_of program pred).arity
     pub within : args.first + args.count ≤ cells
 
+  -- a goal is in range, and its variables are places from a base on, among so many
+  abbrev pub IsGoalPlaced : ℕ → Goal → (base : ℕ) → Type 0
+  IsGoalPlaced cells goal base = (vars : ℕ) × (is_goal_of program vars goal ≡ true) × (base + vars ≤ cells)
+
   -- a task's goal is in range, its cells are among so many, and an exit tests something
   abbrev pub IsTaskPlaced : ℕ → code_task.Task → Type 0
-  IsTaskPlaced cells (task.Runs goal base h place) = (vars : ℕ) × (is_goal_of program vars goal.now ≡ true) × (base + vars ≤ cells)
+  IsTaskPlaced cells (task.Runs goal base h place) = IsGoalPlaced cells goal.now base
   IsTaskPlaced cells (task.Cuts h) = ⊤
   IsTaskPlaced cells (task.Fails h place) = ⊤
   IsTaskPlaced cells (task.Leaves e) = IsCallPlaced cells e.pred e.args × (is_idle e ≡ false)

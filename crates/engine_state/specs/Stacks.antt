@@ -1,6 +1,6 @@
 -- What is done to links and choice points.
 -- The headline does not rest on this file.
-use Rattle.std.specs.Prelude.{◌≡◌, ◌≤◌, ℕ, ◌+◌, ◌-◌, ◌==◌, nat_le, true, List, [], ◌∷◌, ◌++◌, length, max, drop, Bool, false, if◌then◌else◌, ⊤}
+use Rattle.std.specs.Prelude.{◌≡◌, ◌≤◌, ◌<◌, ℕ, ◌+◌, ◌-◌, ◌==◌, nat_le, true, List, [], ◌∷◌, ◌++◌, length, max, drop, Bool, false, if◌then◌else◌, ⊤}
 use Rattle.term_heap.specs.Changes.{Change}
 use Rattle.engine_state.specs.Engines.{Task, Link, chain, Alternative, Resumes, Retries, Marks, ChoicePoint, point_choices, choices_of, AreInOrder, AreHeld}
 
@@ -11,6 +11,7 @@ pub record IsPushed (held rest : ℕ) (old : List Link) (task : Task) (k : ℕ) 
   pub first : chain new k ≡ task ∷ chain old rest
   pub stay : (j : ℕ) → j ≤ max held rest → chain new j ≡ chain old j
   pub number : k ≡ length new
+  pub above : rest < k
 
 -- heights
 

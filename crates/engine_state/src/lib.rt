@@ -1,12 +1,15 @@
 //! What the engine holds over cells, and the state that it is.
 #![tactic(auto)]
 
+mod control;
+mod engine;
 mod grounds;
 mod laws;
 mod links;
 mod marks;
 mod notes;
 mod points;
+mod stages;
 mod tasks;
 
 pub use laws::{

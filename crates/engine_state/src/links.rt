@@ -2,11 +2,9 @@
 ghost use Rattle.std.specs.Prelude.{◌≡◌, ◌≤◌, ◌∷◌, ◌++◌, [], ℕ, List, length, reverse, take, max, IfOk, OnOk, OnErr, MatchOption};
 ghost use Rattle.prog_data.specs.declared.programs.Program.{Program};
 ghost use Rattle.term_heap.specs.Changes.{Change, size_of};
-ghost use Rattle.engine_state.specs.declared.points.ChoicePoint.{ChoicePoint};
 ghost use Rattle.engine_state.specs.Engines.{chain};
 ghost use Rattle.engine_state.specs.Stacks.{IsPushed};
 ghost use Rattle.engine_state.specs.Views.{as_task, as_links, LeadDown};
-
 ghost use Rattle.engine_state.specs.Notes.{IsTaskNoted};
 ghost use Rattle.engine_state.specs.Moments.{links_held, notes_held, notes_used, IsTaskPlaced, HasMoments};
 ghost use Rattle.engine_state.specs.Kept.{IsLetGo};

@@ -27,11 +27,14 @@ returns-then-point-height-clause-moments c =
     changed program query changes notes links items _ p at_end c.with.result (c.len-last.result - 1) c.shortened.result size refl c.with.ensures
     (c.shortened.ensures.may program (omega (arith, c.if-point-height.true))) (c.loop-point.invariant.moments program query changes notes links are)
 
-pub loop-point-preserved-clause-moments : goal.loop-point-preserved-clause-moments
-loop-point-preserved-clause-moments c =
+pub loop-point-preserved : goal.loop-point-preserved
+loop-point-preserved c =
     let items = c.loop-point.points.items in
     let p = c.in-Some.point in
     let at_end : IsNewest items p = subst (λ ps. IsNewest ps p) c.as_slice.ensures.value c.in-Some.ensures in
     let size : vec_len c.loop-point.points - 1 ≡ length items - 1 = omega (arith, c.loop-point.points.ok.0) in
-    λ program query changes notes links are.
-    popped program query changes notes links items c.pop.new.self.items p at_end (c.pop.ensures.rest ∙ ap (λ n. take n items) size) (c.loop-point.invariant.moments program query changes notes links are)
+    let is : c.pop.new.self.items ≡ take (length items - 1) items = c.pop.ensures.rest ∙ ap (λ n. take n items) size in
+    record {
+      cut = λ notes. cut_off notes c.args.height items c.pop.new.self.items p at_end is (omega (arith, c.if-point-height.false)) ∙ c.loop-point.invariant.cut notes;
+      moments = λ program query changes notes links are. popped program query changes notes links items c.pop.new.self.items p at_end is (c.loop-point.invariant.moments program query changes notes links are);
+    }

@@ -1,0 +1,58 @@
+-- What moves of the engine do.
+-- The headline does not rest on this file.
+use Rattle.std.specs.Prelude.{◌≡◌, ◌≤◌, ◌<◌, ℕ, List, [], ◌∷◌, length, Option, None, Some}
+use Rattle.prog_data.specs.declared.programs.Program.{Program}
+use Rattle.prog_data.specs.declared.events.Event.{Event}
+use Rattle.machine_model.specs.State.{Choice, State, Phase, Going}
+use Rattle.machine_model.specs.Tests.{Tests}
+use Rattle.machine_model.specs.Continues.{at_phase, Leads}
+use Rattle.engine_state.specs.declared.engine.Engine as code
+use Rattle.engine_state.specs.declared.stages.Stage as code_stage
+use Rattle.engine_state.specs.declared.stages.Setting.{Setting}
+use Rattle.engine_state.specs.declared.tasks.Task as code_task
+use Rattle.engine_state.specs.declared.tasks.Task.TheVariants as task
+use Rattle.engine_state.specs.Fewest.{fewest_steps, IsOverAfter}
+use Rattle.engine_state.specs.Views.{as_task}
+use Rattle.engine_state.specs.Stages.{choices_at, tasks_at, phase_of, IsKept, IsWhole}
+
+-- an engine became another one, with the same heap and these choices; the tasks from the links up to one on stay
+pub record GoesTo (old : code.Engine) (rest : ℕ) (choices : List Choice) (new : code.Engine) : Type 0 where
+  pub program : new.program.now ≡ old.program.now
+  pub heap : new.heap ≡ old.heap
+  pub calls : new.calls ≡ old.calls
+  pub query : new.query ≡ old.query
+  pub choices_are : choices_at new ≡ choices
+  pub tasks : (j : ℕ) → j ≤ rest → tasks_at new j ≡ tasks_at old j
+  pub kept : IsKept new
+  pub there : rest ≤ length new.links.items
+
+-- a task was put before the tasks from a link on, in a link with this number
+pub record HasPushed (old : code.Engine) (task : code_task.Task) (rest k : ℕ) (new : code.Engine) : Type 0 where
+  pub goes : GoesTo old rest (choices_at old) new
+  pub first : tasks_at new k ≡ as_task old.notes.items task ∷ tasks_at old rest
+  pub first_there : k ≤ length new.links.items
+  pub above : rest < k
+
+-- a goal is to be run once, with these settings: a cut to this height comes before the tasks from a link on
+pub record IsOnce (old : code.Engine) (from : Setting) (now behind : ℕ) (to : Setting) (new : code.Engine) : Type 0 where
+  pub base : to.base ≡ from.base
+  pub place : to.place ≡ from.place
+  pub height : to.height ≡ length (choices_at old)
+  pub pushed : HasPushed old (task.Cuts now) behind to.rest new
+
+module _ (what : Tests) (program : Program) (bound : ℕ) where
+  -- a phase leads to another with these events and this number of tests, and fewer steps are left
+  pub record Moves (old : Phase) (events : List Event) (made : ℕ) (new : Phase) : Type 0 where
+    pub leads : Leads what program bound (at_phase old) [] made (record { untold = events; phase = new })
+    pub fewer : (n : ℕ) → IsOverAfter what program bound n old → IsOverAfter what program bound n new × (fewest_steps what program bound n new < fewest_steps what program bound n old)
+
+  -- a state leads to a phase without event and test
+  abbrev pub IsQuietMove : State → Option Phase → Type 0
+  IsQuietMove s None = ⊥
+  IsQuietMove s (Some p) = Moves (Going s) [] 0 p
+
+-- an engine moved from a state of it on, whatever is tested, without event and test
+pub record HasMoved (old : code.Engine) (from : State) (new : code.Engine) (to : code_stage.Stage) : Type 0 where
+  pub program : new.program.now ≡ old.program.now
+  pub moves : (what : Tests) (bound : ℕ) → IsQuietMove what old.program.now bound from (phase_of new to)
+  pub whole : IsWhole new to

@@ -1,0 +1,110 @@
+// What a run holds.
+ghost use Rattle.std.specs.Prelude.{◌≡◌, ◌≤◌, ◌++◌, ℕ, length, IfOk, OnOk};
+ghost use Rattle.machine_model.specs.State.{cut, exit_mark};
+ghost use Rattle.term_heap.specs.Changes.{size_of, value_of};
+ghost use Rattle.engine_state.specs.Engines.{alternative_choices};
+ghost use Rattle.engine_state.specs.Views.{as_links, as_alternative};
+ghost use Rattle.engine_state.specs.Notes.{IsTaskNoted, IsAlternativeNoted};
+ghost use Rattle.engine_state.specs.Moments.{IsWide, IsTaskPlaced, IsAlternativePlaced};
+ghost use Rattle.engine_state.specs.Stages.{choices_at, IsKept};
+ghost use Rattle.engine_state.specs.Moves.{GoesTo, HasPushed};
+
+use crate::links::{let_go, push_link};
+use crate::points::{Alternative, ChoicePoint, cut_points, height, held_links};
+use crate::tasks::{Link, Task};
+use prog_data::Program;
+use term_core::NoMemory;
+use term_heap::Heap;
+
+/// What a run holds: its program, the heap, what is to be done, what failure goes back to, the calls made, and the query's place.
+#[derive(Drop)]
+pub(crate) struct Engine<'p> {
+    pub program: &'p Program,
+    pub heap: Heap,
+    pub links: Vec<Link<'p>>,
+    pub notes: Vec<u64>,
+    pub points: Vec<ChoicePoint>,
+    pub calls: u64,
+    pub query: u64,
+}
+
+impl<'p> Engine<'p> {
+    /// How many choices there are.
+    ///
+    /// # Errors
+    ///
+    /// Only where no number of 64 bits tells it.
+    pub(crate) fn height(&self) -> Result<u64, NoMemory>
+        requires { IsKept self.now }
+        ensures { IfOk result (λ h. h ≡ length (choices_at self.now)) }
+    {
+        height(self.points.as_slice())
+    }
+
+    /// Lets go of links and notes that neither the tasks from a link on nor choices use.
+    pub(crate) fn let_go(&mut self, rest: u64)
+        requires kept { IsKept self.old }
+        requires rest { rest ≤ length self.old.links.items }
+        ensures { GoesTo self.old rest (choices_at self.old) self.new }
+    {
+        let_go(
+            &mut self.links,
+            &mut self.notes,
+            self.points.as_slice(),
+            rest,
+        );
+    }
+
+    /// Puts a task before the tasks from a link on; the number of its link.
+    ///
+    /// # Errors
+    ///
+    /// Only for want of memory.
+    pub(crate) fn push(&mut self, task: Task<'p>, rest: u64) -> Result<u64, NoMemory>
+        requires kept { IsKept self.old }
+        requires rest { rest ≤ length self.old.links.items }
+        requires placed { IsTaskPlaced self.old.program.now (size_of self.old.heap.changes) task.entry }
+        requires noted { IsTaskNoted (length self.old.notes.items) task.entry }
+        ensures { IfOk result (λ k. HasPushed self.old task.entry rest k self.new) }
+    {
+        let held = held_links(self.points.as_slice());
+        let link = Link {
+            task,
+            next: rest,
+            notes: self.notes.len() as u64,
+        };
+        push_link(&mut self.links, held, link)
+    }
+
+    /// Makes a choice point of now.
+    ///
+    /// # Errors
+    ///
+    /// Only for want of memory.
+    pub(crate) fn add_point(&mut self, alternative: Alternative) -> Result<(), NoMemory>
+        requires kept { IsKept self.old }
+        requires placed { IsAlternativePlaced self.old.program.now (size_of self.old.heap.changes) (length self.old.links.items) alternative }
+        requires noted { IsAlternativeNoted (length self.old.notes.items) alternative }
+        requires wide { IsWide alternative }
+        ensures { OnOk result (GoesTo self.old (length self.old.links.items) (alternative_choices (value_of self.old.heap.changes) (as_links self.old.notes.items self.old.links.items) self.old.query (as_alternative self.old.notes.items alternative) ++ choices_at self.old) self.new) }
+    {
+        let below = height(self.points.as_slice())?;
+        let point = ChoicePoint {
+            trail: self.heap.changes(),
+            links: self.links.len() as u64,
+            notes: self.notes.len() as u64,
+            below,
+            alternative,
+        };
+        self.points.push(point)?;
+        Ok(())
+    }
+
+    /// Takes the newest choices off until that many are left.
+    pub(crate) fn cut_to(&mut self, height: u64)
+        requires { IsKept self.old }
+        ensures { GoesTo self.old (length self.old.links.items) (cut height (choices_at self.old)) self.new }
+    {
+        cut_points(&mut self.points, height);
+    }
+}
