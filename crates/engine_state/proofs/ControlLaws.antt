@@ -12,11 +12,9 @@ use Rattle.engine_state.specs.declared.engine.Engine as code
 use Rattle.engine_state.specs.declared.stages.Setting.{Setting}
 use Rattle.engine_state.specs.declared.stages.Stage as code_stage
 use Rattle.engine_state.specs.declared.stages.Stage.TheVariants as stage
-use Rattle.engine_state.specs.declared.tasks.Task as code_task
 use Rattle.engine_state.specs.Engines.{Task, Runs, Cuts, as_state}
-use Rattle.engine_state.specs.Views.{as_task}
 use Rattle.engine_state.specs.Moments.{IsGoalPlaced}
-use Rattle.engine_state.specs.Stages.{as_engine, choices_at, tasks_at, frame_now, doing, goal_state, phase_of, IsKept, IsDue, IsWhole}
+use Rattle.engine_state.specs.Stages.{as_engine, choices_at, tasks_at, frame_now, doing, goal_state, phase_of, IsKept, IsAt, IsDue, IsWhole}
 use Rattle.engine_state.specs.Moves.{GoesTo, HasPushed, IsOnce, HasMoved}
 use Rattle.engine_state.proofs.EngineLaws.{goes_on, state_after, frame_after}
 use Rattle.engine_state.proofs.MoveLaws.{moved_to, placed_conj, placed_disj, placed_if, placed_not, true_step, fail_step, cut_step, conj_step, disj_step, if_step, not_step}
@@ -63,21 +61,25 @@ module _ (old new : code.Engine) (s : Setting) where
   cut_moved most due le goes =
       doing_moved old new (goal_state old goal.Cut s) most (cut s.height (choices_at old)) (tasks_at old s.rest) due.kept.in_range due.own goes s.rest (goes.tasks s.rest le) (omega (arith, le, goes.there)) (λ what bound. cut_step what old.program.now bound old s)
 
-  pub conj_moved : (a b : Goal) (task : code_task.Task) (behind : ℕ) (to : code_stage.Stage) → IsDue old (goal.Conj a b) s → as_task old.notes.items task ≡ Runs b s.base s.height s.place → HasPushed old task s.rest behind new →
+  pub cuts_moved : (h rest most : ℕ) → IsAt old (doing old (Cuts h ∷ tasks_at old rest)) (rest ≤ length old.links.items) → rest ≤ most → GoesTo old most (cut h (choices_at old)) new → HasMoved old (doing old (Cuts h ∷ tasks_at old rest)) new (stage.Doing rest)
+  cuts_moved h rest most at le goes =
+      doing_moved old new (doing old (Cuts h ∷ tasks_at old rest)) most (cut h (choices_at old)) (tasks_at old rest) at.kept.in_range at.own goes rest (goes.tasks rest le) (omega (arith, le, goes.there)) (λ what bound. refl)
+
+  pub conj_moved : (a b : Goal) (behind : ℕ) (to : code_stage.Stage) → IsDue old (goal.Conj a b) s → HasPushed old (Runs b s.base s.height s.place) s.rest behind new →
       phase_of new to ≡ Some (Going (goal_state new a (record s { rest = behind }))) → (IsDue new a (record s { rest = behind }) → IsWhole new to) → HasMoved old (goal_state old (goal.Conj a b) s) new to
-  conj_moved a b task behind to due is_task pushed phase whole =
+  conj_moved a b behind to due pushed phase whole =
       due_moved old new (goal_state old (goal.Conj a b) s) s.rest (choices_at old) (Runs b s.base s.height s.place ∷ tasks_at old s.rest) due.kept.in_range due.own pushed.goes a (record s { rest = behind }) to
-      (pushed.first ∙ ap (λ t. t ∷ tasks_at old s.rest) is_task) pushed.first_there (placed_conj old.program.now (size_of old.heap.changes) s.base a b due.in_hand.0).0
+      pushed.first pushed.first_there (placed_conj old.program.now (size_of old.heap.changes) s.base a b due.in_hand.0).0
       (λ what bound. conj_step what old.program.now bound old s a b) phase whole
 
   -- a choice point with a link of its own was made
-  module _ (less mid : code.Engine) (g : Goal) (task : code_task.Task) (other : ℕ) (is_task : (notes : List ℕ) → as_task notes task ≡ Runs g s.base s.height s.place) (lets_go : GoesTo old s.rest (choices_at old) less) (pushed : HasPushed less task s.rest other mid)
+  module _ (less mid : code.Engine) (g : Goal) (other : ℕ) (lets_go : GoesTo old s.rest (choices_at old) less) (pushed : HasPushed less (Runs g s.base s.height s.place) s.rest other mid)
       (pointed : GoesTo mid (length mid.links.items) (Resume (frame_now mid (tasks_at mid other)) ∷ choices_at mid) new) where
     pub with_other : GoesTo old s.rest (Resume (frame_now old (Runs g s.base s.height s.place ∷ tasks_at old s.rest)) ∷ choices_at old) new
     with_other =
         let to_mid : GoesTo old s.rest (choices_at less) mid = goes_on old less mid s.rest s.rest (choices_at old) (choices_at less) lets_go pushed.goes (omega arith) in
         let tasks : tasks_at mid other ≡ Runs g s.base s.height s.place ∷ tasks_at old s.rest =
-        pushed.first ∙ (λ i. is_task less.notes.items i ∷ lets_go.tasks s.rest (omega arith) i) in
+        pushed.first ∙ ap (λ ts. Runs g s.base s.height s.place ∷ ts) (lets_go.tasks s.rest (omega arith)) in
         let frame : frame_now mid (tasks_at mid other) ≡ frame_now old (Runs g s.base s.height s.place ∷ tasks_at old s.rest) =
         ap (frame_now mid) tasks ∙ frame_after old mid s.rest (choices_at less) (Runs g s.base s.height s.place ∷ tasks_at old s.rest) to_mid in
         let choices : choices_at mid ≡ choices_at old = pushed.goes.choices_are ∙ lets_go.choices_are in
@@ -93,19 +95,19 @@ module _ (old new : code.Engine) (s : Setting) where
 
 -- a goal that is run once
 
-module _ (old top mid new : code.Engine) (from : State) (g : Goal) (s to_s : Setting) (task : code_task.Task) (second : Task) (choice : Choice) (behind now : ℕ) (to : code_stage.Stage) where
-  pub once_moved : IsProgram old.program.now → IsLeaner old.program.now from from → GoesTo old s.rest (choice ∷ choices_at old) top → HasPushed top task s.rest behind mid → ((notes : List ℕ) → as_task notes task ≡ second) → IsOnce mid s now behind to_s new →
+module _ (old top mid new : code.Engine) (from : State) (g : Goal) (s to_s : Setting) (second : Task) (choice : Choice) (behind now : ℕ) (to : code_stage.Stage) where
+  pub once_moved : IsProgram old.program.now → IsLeaner old.program.now from from → GoesTo old s.rest (choice ∷ choices_at old) top → HasPushed top second s.rest behind mid → IsOnce mid s now behind to_s new →
       now ≡ length (choices_at old) → IsGoalPlaced old.program.now (size_of old.heap.changes) g s.base →
       ((what : Tests) (bound : ℕ) → step what old.program.now bound from
       ≡ quietly (Going (record (doing old (Runs g s.base (suc (length (choices_at old))) s.place ∷ Cuts (length (choices_at old)) ∷ second ∷ tasks_at old s.rest)) { choices = choice ∷ choices_at old }))) →
       phase_of new to ≡ Some (Going (goal_state new g to_s)) → (IsDue new g to_s → IsWhole new to) → HasMoved old from new to
-  once_moved ok own goes pushed is_task once is_now placed steps phase whole =
+  once_moved ok own goes pushed once is_now placed steps phase whole =
       let cs : List Choice = choice ∷ choices_at old in
       let mid_choices : choices_at mid ≡ cs = pushed.goes.choices_are ∙ goes.choices_are in
       let to_mid : GoesTo old s.rest (choices_at top) mid = goes_on old top mid s.rest s.rest cs (choices_at top) goes pushed.goes (omega arith) in
       let to_new : GoesTo old s.rest cs new = subst (λ ds. GoesTo old s.rest ds new) mid_choices (goes_on old mid new s.rest behind (choices_at top) (choices_at mid) to_mid once.pushed.goes (omega (arith, pushed.above))) in
       let tasks : tasks_at new to_s.rest ≡ Cuts now ∷ second ∷ tasks_at old s.rest =
-      once.pushed.first ∙ ap (λ ts. Cuts now ∷ ts) (pushed.first ∙ (λ i. is_task top.notes.items i ∷ goes.tasks s.rest (omega arith) i)) in
+      once.pushed.first ∙ ap (λ ts. Cuts now ∷ ts) (pushed.first ∙ ap (λ ts. second ∷ ts) (goes.tasks s.rest (omega arith))) in
       let height : suc (length (choices_at old)) ≡ to_s.height = sym (once.height ∙ ap length mid_choices) in
       let base : s.base ≡ to_s.base = sym once.base in
       let place : s.place ≡ to_s.place = sym once.place in
@@ -113,23 +115,23 @@ module _ (old top mid new : code.Engine) (from : State) (g : Goal) (s to_s : Set
       due_moved old new from s.rest cs (Cuts now ∷ second ∷ tasks_at old s.rest) ok own to_new g to_s to tasks once.pushed.first_there (subst (IsGoalPlaced old.program.now (size_of old.heap.changes) g) base placed)
       (λ what bound. steps what bound ∙ (λ i. quietly (Going (record (doing old (Runs g (base i) (height i) (place i) ∷ Cuts (cut i) ∷ second ∷ tasks_at old s.rest)) { choices = cs })))) phase whole
 
-module _ (old less top mid new : code.Engine) (s to_s : Setting) (task : code_task.Task) (behind now : ℕ) (to : code_stage.Stage) where
-  pub if_moved : (c a b : Goal) → IsDue old (goal.IfElse c a b) s → GoesTo old s.rest (Resume (frame_now old (Runs b s.base s.height s.place ∷ tasks_at old s.rest)) ∷ choices_at old) top → HasPushed top task s.rest behind mid →
-      ((notes : List ℕ) → as_task notes task ≡ Runs a s.base s.height s.place) → IsOnce mid s now behind to_s new → now ≡ length (choices_at old) → phase_of new to ≡ Some (Going (goal_state new c to_s)) → (IsDue new c to_s → IsWhole new to) →
+module _ (old less top mid new : code.Engine) (s to_s : Setting) (behind now : ℕ) (to : code_stage.Stage) where
+  pub if_moved : (c a b : Goal) → IsDue old (goal.IfElse c a b) s → GoesTo old s.rest (Resume (frame_now old (Runs b s.base s.height s.place ∷ tasks_at old s.rest)) ∷ choices_at old) top → HasPushed top (Runs a s.base s.height s.place) s.rest behind mid →
+      IsOnce mid s now behind to_s new → now ≡ length (choices_at old) → phase_of new to ≡ Some (Going (goal_state new c to_s)) → (IsDue new c to_s → IsWhole new to) →
       HasMoved old (goal_state old (goal.IfElse c a b) s) new to
-  if_moved c a b due goes pushed is_task once is_now phase whole =
-      once_moved old top mid new (goal_state old (goal.IfElse c a b) s) c s to_s task (Runs a s.base s.height s.place) (Resume (frame_now old (Runs b s.base s.height s.place ∷ tasks_at old s.rest))) behind now to due.kept.in_range due.own goes pushed is_task once is_now
+  if_moved c a b due goes pushed once is_now phase whole =
+      once_moved old top mid new (goal_state old (goal.IfElse c a b) s) c s to_s (Runs a s.base s.height s.place) (Resume (frame_now old (Runs b s.base s.height s.place ∷ tasks_at old s.rest))) behind now to due.kept.in_range due.own goes pushed once is_now
       (placed_if old.program.now (size_of old.heap.changes) s.base c a b due.in_hand.0).0 (λ what bound. if_step what old.program.now bound old s c a b) phase whole
 
-  pub not_moved : (a : Goal) → IsDue old (goal.Not a) s → GoesTo old s.rest (choices_at old) less → GoesTo less (length less.links.items) (Resume (frame_now less (tasks_at less s.rest)) ∷ choices_at less) top → HasPushed top task s.rest behind mid →
-      ((notes : List ℕ) → as_task notes task ≡ Runs goal.Fail 0 s.height s.place) → IsOnce mid s now behind to_s new → now ≡ length (choices_at old) → phase_of new to ≡ Some (Going (goal_state new a to_s)) → (IsDue new a to_s → IsWhole new to) →
+  pub not_moved : (a : Goal) → IsDue old (goal.Not a) s → GoesTo old s.rest (choices_at old) less → GoesTo less (length less.links.items) (Resume (frame_now less (tasks_at less s.rest)) ∷ choices_at less) top → HasPushed top (Runs goal.Fail 0 s.height s.place) s.rest behind mid →
+      IsOnce mid s now behind to_s new → now ≡ length (choices_at old) → phase_of new to ≡ Some (Going (goal_state new a to_s)) → (IsDue new a to_s → IsWhole new to) →
       HasMoved old (goal_state old (goal.Not a) s) new to
-  not_moved a due lets_go pointed pushed is_task once is_now phase whole =
+  not_moved a due lets_go pointed pushed once is_now phase whole =
       let frame : frame_now less (tasks_at less s.rest) ≡ frame_now old (tasks_at old s.rest) =
       ap (frame_now less) (lets_go.tasks s.rest (omega arith)) ∙ frame_after old less s.rest (choices_at old) (tasks_at old s.rest) lets_go in
       let choices : choices_at less ≡ choices_at old = lets_go.choices_are in
       let goes : GoesTo old s.rest (Resume (frame_now old (tasks_at old s.rest)) ∷ choices_at old) top =
       subst (λ cs. GoesTo old s.rest cs top) (λ i. Resume (frame i) ∷ choices i)
       (goes_on old less top s.rest (length less.links.items) (choices_at old) (Resume (frame_now less (tasks_at less s.rest)) ∷ choices_at less) lets_go pointed lets_go.there) in
-      once_moved old top mid new (goal_state old (goal.Not a) s) a s to_s task (Runs goal.Fail 0 s.height s.place) (Resume (frame_now old (tasks_at old s.rest))) behind now to due.kept.in_range due.own goes pushed is_task once is_now
+      once_moved old top mid new (goal_state old (goal.Not a) s) a s to_s (Runs goal.Fail 0 s.height s.place) (Resume (frame_now old (tasks_at old s.rest))) behind now to due.kept.in_range due.own goes pushed once is_now
       (placed_not old.program.now (size_of old.heap.changes) s.base a due.in_hand.0) (λ what bound. not_step what old.program.now bound old s a) phase whole

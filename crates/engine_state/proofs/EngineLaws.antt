@@ -10,7 +10,7 @@ use Rattle.engine_state.specs.declared.points.Alternative as code_alternative
 use Rattle.engine_state.specs.declared.points.ChoicePoint as code_point
 use Rattle.engine_state.specs.Engines.{Task, chain, alternative_choices, choices_of, frame_with, AreHeld}
 use Rattle.engine_state.specs.Stacks.{height_of, AreCounted, cut_points, IsPushed}
-use Rattle.engine_state.specs.Views.{as_task, as_alternative, as_point, as_links, as_points}
+use Rattle.engine_state.specs.Views.{as_task, as_alternative, as_point, as_links, as_points, LeadDown}
 use Rattle.engine_state.specs.Notes.{IsAlternativeNoted}
 use Rattle.engine_state.specs.Moments.{links_held, IsWide, IsAlternativePlaced, Moments, HasMoments}
 use Rattle.engine_state.specs.Kept.{IsLetGo}
@@ -19,8 +19,8 @@ use Rattle.engine_state.specs.Moves.{GoesTo, HasPushed}
 use Rattle.engine_state.proofs.ChoiceLaws.{pushed_choices, now_choices}
 use Rattle.engine_state.proofs.CutLaws.{heights, cuts, counted}
 use Rattle.engine_state.proofs.LinkLaws.{length_links}
-use Rattle.engine_state.proofs.MomentLaws.{made}
-use Rattle.engine_state.proofs.GivenLaws.{held}
+use Rattle.engine_state.proofs.MomentLaws.{made, held_within}
+use Rattle.engine_state.proofs.GivenLaws.{held, down}
 
 -- how many choices there are
 pub height_at : (e : code.Engine) (h : ℕ) → IsKept e → h ≡ height_of (as_points e.notes.items e.points.items) → h ≡ length (choices_at e)
@@ -35,6 +35,13 @@ pub all_held : (e : code.Engine) → IsKept e → AreHeld (links_held (reverse e
 all_held e kept =
     held_itself e.notes.items (length (reverse e.links.items)) (reverse e.points.items)
     (held e.program.now e.notes.items e.query e.heap.changes (length e.notes.items) (reverse e.links.items) (reverse e.points.items) kept.moments)
+
+-- what pushing wants
+pub links_enough : (e : code.Engine) → IsKept e → links_held (reverse e.points.items) ≤ length e.links.items
+links_enough e kept = omega (arith, (held_within e.program.now e.query e.heap.changes (length e.notes.items) (reverse e.links.items) (reverse e.points.items) kept.moments).0, length-reverse e.links.items)
+
+pub leads_down : (e : code.Engine) → IsKept e → LeadDown (reverse e.links.items)
+leads_down e kept = down e.program.now e.query e.heap.changes (length e.notes.items) (reverse e.links.items) (reverse e.points.items) kept.moments
 
 module _ (old : code.Engine) (kept : IsKept old) where
   abbrev links : List code_link.Link
@@ -60,7 +67,7 @@ module _ (old : code.Engine) (kept : IsKept old) where
 
   -- a task is put before others
   pub goes_pushed : (task : code_task.Task) (rest k : ℕ) (new_links : _) → IsPushed (links_held (reverse old.points.items)) rest (as_links old.notes.items links) (as_task old.notes.items task) k (as_links old.notes.items new_links.items) →
-      HasMoments old.program.now old.query old.heap.changes old.notes.items new_links.items old.points.items → HasPushed old task rest k (record old { links = new_links })
+      HasMoments old.program.now old.query old.heap.changes old.notes.items new_links.items old.points.items → HasPushed old (as_task old.notes.items task) rest k (record old { links = new_links })
   goes_pushed task rest k new_links pushed moments =
       let olds = as_links old.notes.items links in
       let news = as_links old.notes.items new_links.items in

@@ -9,10 +9,8 @@ use Rattle.machine_model.specs.Continues.{at_phase, Leads}
 use Rattle.engine_state.specs.declared.engine.Engine as code
 use Rattle.engine_state.specs.declared.stages.Stage as code_stage
 use Rattle.engine_state.specs.declared.stages.Setting.{Setting}
-use Rattle.engine_state.specs.declared.tasks.Task as code_task
-use Rattle.engine_state.specs.declared.tasks.Task.TheVariants as task
+use Rattle.engine_state.specs.Engines.{Task, Cuts}
 use Rattle.engine_state.specs.Fewest.{fewest_steps, IsOverAfter}
-use Rattle.engine_state.specs.Views.{as_task}
 use Rattle.engine_state.specs.Stages.{choices_at, tasks_at, phase_of, IsKept, IsWhole}
 
 -- an engine became another one, with the same heap and these choices; the tasks from the links up to one on stay
@@ -27,9 +25,9 @@ pub record GoesTo (old : code.Engine) (rest : ℕ) (choices : List Choice) (new 
   pub there : rest ≤ length new.links.items
 
 -- a task was put before the tasks from a link on, in a link with this number
-pub record HasPushed (old : code.Engine) (task : code_task.Task) (rest k : ℕ) (new : code.Engine) : Type 0 where
+pub record HasPushed (old : code.Engine) (task : Task) (rest k : ℕ) (new : code.Engine) : Type 0 where
   pub goes : GoesTo old rest (choices_at old) new
-  pub first : tasks_at new k ≡ as_task old.notes.items task ∷ tasks_at old rest
+  pub first : tasks_at new k ≡ task ∷ tasks_at old rest
   pub first_there : k ≤ length new.links.items
   pub above : rest < k
 
@@ -38,7 +36,7 @@ pub record IsOnce (old : code.Engine) (from : Setting) (now behind : ℕ) (to : 
   pub base : to.base ≡ from.base
   pub place : to.place ≡ from.place
   pub height : to.height ≡ length (choices_at old)
-  pub pushed : HasPushed old (task.Cuts now) behind to.rest new
+  pub pushed : HasPushed old (Cuts now) behind to.rest new
 
 module _ (what : Tests) (program : Program) (bound : ℕ) where
   -- a phase leads to another with these events and this number of tests, and fewer steps are left

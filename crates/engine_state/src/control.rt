@@ -1,7 +1,8 @@
 // Moves at the goals of control.
-ghost use Rattle.std.specs.Prelude.{◌≤◌, length, IfOk};
+ghost use Rattle.std.specs.Prelude.{◌≤◌, ◌∷◌, length, IfOk};
 ghost use Rattle.prog_data.specs.declared.goals.Goal as goal;
-ghost use Rattle.engine_state.specs.Stages.{goal_state, IsKept, IsDue};
+ghost use Rattle.engine_state.specs.Engines.{Cuts};
+ghost use Rattle.engine_state.specs.Stages.{tasks_at, doing, goal_state, IsKept, IsAt, IsDue};
 ghost use Rattle.engine_state.specs.Moves.{IsOnce, HasMoved};
 
 use crate::engine::Engine;
@@ -37,6 +38,15 @@ impl<'p> Engine<'p> {
         Stage::Doing(setting.rest)
     }
 
+    /// At a cut to a height, before the tasks from a link on.
+    pub(crate) fn do_cuts(&mut self, height: u64, rest: u64) -> Stage<'p>
+        requires { IsAt self.old (doing self.old (Cuts height ∷ tasks_at self.old rest)) (rest ≤ length self.old.links.items) }
+        ensures { HasMoved self.old (doing self.old (Cuts height ∷ tasks_at self.old rest)) self.new result }
+    {
+        self.cut_to(height);
+        Stage::Doing(rest)
+    }
+
     /// At a conjunction.
     ///
     /// # Errors
@@ -51,10 +61,7 @@ impl<'p> Engine<'p> {
         requires { IsDue self.old (goal.Conj first.now second.now) setting }
         ensures { IfOk result (λ stage. HasMoved self.old (goal_state self.old (goal.Conj first.now second.now) setting) self.new stage) }
     {
-        let behind = self.push(
-            Task::Runs(second, setting.base, setting.height, setting.place),
-            setting.rest,
-        )?;
+        let behind = self.put_off(second, setting)?;
         let before = Setting {
             base: setting.base,
             height: setting.height,
@@ -79,10 +86,7 @@ impl<'p> Engine<'p> {
         ensures { IfOk result (λ stage. HasMoved self.old (goal_state self.old (goal.Disj first.now second.now) setting) self.new stage) }
     {
         self.let_go(setting.rest);
-        let other = self.push(
-            Task::Runs(second, setting.base, setting.height, setting.place),
-            setting.rest,
-        )?;
+        let other = self.put_off(second, setting)?;
         self.add_point(Alternative::Resumes(other))?;
         Ok(Stage::Goal(first, setting))
     }
@@ -104,15 +108,9 @@ impl<'p> Engine<'p> {
     {
         let now = self.height()?;
         self.let_go(setting.rest);
-        let other = self.push(
-            Task::Runs(second, setting.base, setting.height, setting.place),
-            setting.rest,
-        )?;
+        let other = self.put_off(second, setting)?;
         self.add_point(Alternative::Resumes(other))?;
-        let behind = self.push(
-            Task::Runs(first, setting.base, setting.height, setting.place),
-            setting.rest,
-        )?;
+        let behind = self.put_off(first, setting)?;
         let once = self.run_once(setting, now, behind)?;
         Ok(Stage::Goal(condition, once))
     }

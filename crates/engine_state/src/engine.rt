@@ -2,17 +2,18 @@
 ghost use Rattle.std.specs.Prelude.{◌≡◌, ◌≤◌, ◌++◌, ℕ, length, IfOk, OnOk};
 ghost use Rattle.machine_model.specs.State.{cut, exit_mark};
 ghost use Rattle.term_heap.specs.Changes.{size_of, value_of};
-ghost use Rattle.engine_state.specs.Engines.{alternative_choices};
-ghost use Rattle.engine_state.specs.Views.{as_links, as_alternative};
+ghost use Rattle.engine_state.specs.Engines.{Runs, alternative_choices};
+ghost use Rattle.engine_state.specs.Views.{as_links, as_task, as_alternative};
 ghost use Rattle.engine_state.specs.Notes.{IsTaskNoted, IsAlternativeNoted};
-ghost use Rattle.engine_state.specs.Moments.{IsWide, IsTaskPlaced, IsAlternativePlaced};
+ghost use Rattle.engine_state.specs.Moments.{IsWide, IsGoalPlaced, IsTaskPlaced, IsAlternativePlaced};
 ghost use Rattle.engine_state.specs.Stages.{choices_at, IsKept};
 ghost use Rattle.engine_state.specs.Moves.{GoesTo, HasPushed};
 
 use crate::links::{let_go, push_link};
 use crate::points::{Alternative, ChoicePoint, cut_points, height, held_links};
+use crate::stages::Setting;
 use crate::tasks::{Link, Task};
-use prog_data::Program;
+use prog_data::{Goal, Program};
 use term_core::NoMemory;
 use term_heap::Heap;
 
@@ -38,7 +39,8 @@ impl<'p> Engine<'p> {
         requires { IsKept self.now }
         ensures { IfOk result (λ h. h ≡ length (choices_at self.now)) }
     {
-        height(self.points.as_slice())
+        let height = height(self.points.as_slice())?;
+        Ok(height)
     }
 
     /// Lets go of links and notes that neither the tasks from a link on nor choices use.
@@ -65,7 +67,7 @@ impl<'p> Engine<'p> {
         requires rest { rest ≤ length self.old.links.items }
         requires placed { IsTaskPlaced self.old.program.now (size_of self.old.heap.changes) task.entry }
         requires noted { IsTaskNoted (length self.old.notes.items) task.entry }
-        ensures { IfOk result (λ k. HasPushed self.old task.entry rest k self.new) }
+        ensures { IfOk result (λ k. HasPushed self.old (as_task self.old.notes.items task.entry) rest k self.new) }
     {
         let held = held_links(self.points.as_slice());
         let link = Link {
@@ -73,7 +75,24 @@ impl<'p> Engine<'p> {
             next: rest,
             notes: self.notes.len() as u64,
         };
-        push_link(&mut self.links, held, link)
+        let number = push_link(&mut self.links, held, link)?;
+        Ok(number)
+    }
+
+    /// Puts a goal off: before the tasks that its settings tell; the number of its link.
+    ///
+    /// # Errors
+    ///
+    /// Only for want of memory.
+    pub(crate) fn put_off(&mut self, goal: &'p Goal, setting: Setting) -> Result<u64, NoMemory>
+        requires kept { IsKept self.old }
+        requires rest { setting.rest ≤ length self.old.links.items }
+        requires placed { IsGoalPlaced self.old.program.now (size_of self.old.heap.changes) goal.now setting.base }
+        ensures { IfOk result (λ k. HasPushed self.old (Runs goal.now setting.base setting.height setting.place) setting.rest k self.new) }
+    {
+        let task = Task::Runs(goal, setting.base, setting.height, setting.place);
+        let number = self.push(task, setting.rest)?;
+        Ok(number)
     }
 
     /// Makes a choice point of now.
