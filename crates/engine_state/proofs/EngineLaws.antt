@@ -1,6 +1,8 @@
 -- What an engine goes over into where its links, notes and choice points change.
 use Rattle.std.proofs.Common.{◌≡◌, ◌≤◌, ◌<◌, ◌+◌, ◌-◌, ℕ, List, [], ◌∷◌, ◌++◌, map, reverse, length, refl, sym, ap, subst, ◌∙◌, arith}
 use Rattle.std.proofs.lemmas.List.{reverse-append, length-reverse}
+use Rattle.std.specs.Prelude.{Vec}
+use Rattle.std.specs.declared.alloc.Global.{Global}
 use Rattle.machine_model.specs.State.{Choice, Doing, cut}
 use Rattle.term_heap.specs.Changes.{size_of, value_of}
 use Rattle.engine_state.specs.declared.engine.Engine as code
@@ -48,7 +50,7 @@ module _ (old : code.Engine) (kept : IsKept old) where
   links = old.links.items
 
   -- links and notes are let go
-  pub goes_let_go : (rest : ℕ) (new_links : _) (new_notes : _) → IsLetGo old.program.now old.query old.heap.changes rest old.notes.items links old.points.items new_notes.items new_links.items →
+  pub goes_let_go : (rest : ℕ) (new_links : Vec code_link.Link Global) (new_notes : Vec ℕ Global) → IsLetGo old.program.now old.query old.heap.changes rest old.notes.items links old.points.items new_notes.items new_links.items →
       GoesTo old rest (choices_at old) (record old { links = new_links; notes = new_notes })
   goes_let_go rest new_links new_notes gone =
       let olds = as_links old.notes.items links in
@@ -66,7 +68,7 @@ module _ (old : code.Engine) (kept : IsKept old) where
       }
 
   -- a task is put before others
-  pub goes_pushed : (task : code_task.Task) (rest k : ℕ) (new_links : _) → IsPushed (links_held (reverse old.points.items)) rest (as_links old.notes.items links) (as_task old.notes.items task) k (as_links old.notes.items new_links.items) →
+  pub goes_pushed : (task : code_task.Task) (rest k : ℕ) (new_links : Vec code_link.Link Global) → IsPushed (links_held (reverse old.points.items)) rest (as_links old.notes.items links) (as_task old.notes.items task) k (as_links old.notes.items new_links.items) →
       HasMoments old.program.now old.query old.heap.changes old.notes.items new_links.items old.points.items → HasPushed old (as_task old.notes.items task) rest k (record old { links = new_links })
   goes_pushed task rest k new_links pushed moments =
       let olds = as_links old.notes.items links in
@@ -89,7 +91,7 @@ module _ (old : code.Engine) (kept : IsKept old) where
       }
 
   -- a choice point is made
-  pub goes_pointed : (p : code_point.ChoicePoint) (new_points : _) → new_points.items ≡ old.points.items ++ p ∷ [] → p.trail ≡ length old.heap.changes → p.links ≡ length links → p.notes ≡ length old.notes.items →
+  pub goes_pointed : (p : code_point.ChoicePoint) (new_points : Vec code_point.ChoicePoint Global) → new_points.items ≡ old.points.items ++ p ∷ [] → p.trail ≡ length old.heap.changes → p.links ≡ length links → p.notes ≡ length old.notes.items →
       p.below ≡ height_of (as_points old.notes.items old.points.items) → IsAlternativePlaced old.program.now (size_of old.heap.changes) (length links) p.alternative → IsAlternativeNoted (length old.notes.items) p.alternative → IsWide p.alternative →
       GoesTo old (length links) (alternative_choices (value_of old.heap.changes) (as_links old.notes.items links) old.query (as_alternative old.notes.items p.alternative) ++ choices_at old) (record old { points = new_points })
   goes_pointed p new_points is trail links_are notes_are below placed noted wide =
@@ -115,7 +117,7 @@ module _ (old : code.Engine) (kept : IsKept old) where
       }
 
   -- choices are cut
-  pub goes_cut : (h : ℕ) (new_points : _) → as_points old.notes.items new_points.items ≡ cut_points h (as_points old.notes.items old.points.items) →
+  pub goes_cut : (h : ℕ) (new_points : Vec code_point.ChoicePoint Global) → as_points old.notes.items new_points.items ≡ cut_points h (as_points old.notes.items old.points.items) →
       HasMoments old.program.now old.query old.heap.changes old.notes.items links new_points.items → GoesTo old (length links) (cut h (choices_at old)) (record old { points = new_points })
   goes_cut h new_points is moments =
       let olds = as_links old.notes.items links in
