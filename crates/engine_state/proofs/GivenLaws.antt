@@ -64,7 +64,7 @@ module _ (all : List ℕ) where
 -- moments
 
 module _ (program : Program) where
-  rest_placed : (all : List ℕ) (cells links : ℕ) (a : code_alternative.Alternative) → IsAlternativePlaced program cells links a → rest_of (as_alternative all a) ≤ links
+  pub rest_placed : (all : List ℕ) (cells links : ℕ) (a : code_alternative.Alternative) → IsAlternativePlaced program cells links a → rest_of (as_alternative all a) ≤ links
   rest_placed all cells links (alternative.Resumes rest) is = is
   rest_placed all cells links (alternative.Retries next end c) is = is.2
   rest_placed all cells links (alternative.Marks p conds exited) is = omega arith

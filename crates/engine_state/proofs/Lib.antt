@@ -1,3 +1,4 @@
+mod BackLaws
 mod BelowLaws
 mod ChoiceLaws
 mod ControlLaws

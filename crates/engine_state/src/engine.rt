@@ -1,5 +1,5 @@
 // What a run holds.
-ghost use Rattle.std.specs.Prelude.{◌≡◌, ◌≤◌, ◌++◌, ℕ, length, IfOk, OnOk};
+ghost use Rattle.std.specs.Prelude.{◌≡◌, ◌≤◌, ◌++◌, [], ℕ, length, IfOk, OnOk, MatchOption};
 ghost use Rattle.machine_model.specs.State.{cut, exit_mark};
 ghost use Rattle.term_heap.specs.Changes.{size_of, value_of};
 ghost use Rattle.engine_state.specs.Engines.{Runs, alternative_choices};
@@ -7,7 +7,7 @@ ghost use Rattle.engine_state.specs.Views.{as_links, as_task, as_alternative};
 ghost use Rattle.engine_state.specs.Notes.{IsTaskNoted, IsAlternativeNoted};
 ghost use Rattle.engine_state.specs.Moments.{IsWide, IsGoalPlaced, IsTaskPlaced, IsAlternativePlaced};
 ghost use Rattle.engine_state.specs.Stages.{choices_at, IsKept};
-ghost use Rattle.engine_state.specs.Moves.{GoesTo, HasPushed};
+ghost use Rattle.engine_state.specs.Moves.{GoesTo, HasPushed, HasTaken};
 
 use crate::links::{let_go, push_link};
 use crate::points::{Alternative, ChoicePoint, cut_points, height, held_links};
@@ -15,7 +15,7 @@ use crate::stages::Setting;
 use crate::tasks::{Link, Task};
 use prog_data::{Goal, Program};
 use term_core::NoMemory;
-use term_heap::Heap;
+use term_heap::{Heap, HeapMark};
 
 /// What a run holds: its program, the heap, what is to be done, what failure goes back to, the calls made, and the query's place.
 #[derive(Drop)]
@@ -125,5 +125,24 @@ impl<'p> Engine<'p> {
         ensures { GoesTo self.old (length self.old.links.items) (cut height (choices_at self.old)) self.new }
     {
         cut_points(&mut self.points, height);
+    }
+
+    /// Takes the newest choice off and goes back to its moment; its alternative, if there is one.
+    pub(crate) fn take_choice(&mut self) -> Option<Alternative>
+        requires { IsKept self.old }
+        ensures { MatchOption result (choices_at self.old ≡ []) (λ a. HasTaken self.old a self.new) }
+    {
+        match take_newest(&mut self.points) {
+            None => None,
+            Some(point) => {
+                let mark = HeapMark {
+                    length: point.trail,
+                };
+                self.heap.undo_to(mark);
+                self.links.truncate(point.links as usize);
+                self.notes.truncate(point.notes as usize);
+                Some(point.alternative)
+            }
+        }
     }
 }
