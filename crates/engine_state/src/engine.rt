@@ -10,7 +10,7 @@ ghost use Rattle.engine_state.specs.Stages.{choices_at, IsKept};
 ghost use Rattle.engine_state.specs.Moves.{GoesTo, HasPushed, HasTaken};
 
 use crate::links::{let_go, push_link};
-use crate::points::{Alternative, ChoicePoint, cut_points, height, held_links};
+use crate::points::{Alternative, ChoicePoint, cut_points, height, held_links, take_newest};
 use crate::stages::Setting;
 use crate::tasks::{Link, Task};
 use prog_data::{Goal, Program};
