@@ -14,7 +14,7 @@ use Rattle.engine_state.specs.Views.{as_alternative, as_point, as_links, as_poin
 use Rattle.engine_state.specs.Notes.{IsTaskNoted, IsAlternativeNoted, AreLinksNoted, ArePointsNoted}
 use Rattle.engine_state.specs.Moments.{IsAlternativePlaced, Moments, HasMoments, GoesBack}
 use Rattle.engine_state.specs.Stages.{choices_at, IsKept}
-use Rattle.engine_state.specs.Moves.{HasTaken}
+use Rattle.engine_state.specs.Turns.{HasTaken}
 use Rattle.engine_state.proofs.EachLaws.{each_reversed}
 use Rattle.engine_state.proofs.ChoiceLaws.{same_alternative, back_choices, pushed_choices}
 use Rattle.engine_state.proofs.LinkLaws.{kept_chain, reversed_front}
@@ -73,7 +73,7 @@ module _ (old : code.Engine) (kept : IsKept old) (p : code_point.ChoicePoint) (h
       subst (λ ns. as_points ns points.items ≡ as_points old.notes.items points.items) front
       (notes_stay.points p.notes old.notes.items [] points.items back.before.fewer_notes (subst (ArePointsNoted p.notes) (reverse-reverse points.items) (each_reversed (λ q. IsAlternativeNoted p.notes q.alternative) (reverse points.items) noted)))
 
-  first_of : (d : ChoicePoint) → List ChoicePoint → ChoicePoint
+  abbrev first_of : (d : ChoicePoint) → List ChoicePoint → ChoicePoint
   first_of d [] = d
   first_of d (q ∷ qs) = q
 

@@ -17,7 +17,7 @@ use Rattle.engine_state.specs.Notes.{IsAlternativeNoted}
 use Rattle.engine_state.specs.Moments.{links_held, IsWide, IsAlternativePlaced, Moments, HasMoments}
 use Rattle.engine_state.specs.Kept.{IsLetGo}
 use Rattle.engine_state.specs.Stages.{choices_at, tasks_at, frame_now, doing, IsKept}
-use Rattle.engine_state.specs.Moves.{GoesTo, HasPushed}
+use Rattle.engine_state.specs.Turns.{GoesTo, HasPushed}
 use Rattle.engine_state.proofs.ChoiceLaws.{pushed_choices, now_choices}
 use Rattle.engine_state.proofs.CutLaws.{heights, cuts, counted}
 use Rattle.engine_state.proofs.LinkLaws.{length_links}

@@ -15,7 +15,7 @@ mod LetGoLaws
 mod LinkLaws
 mod MarkLaws
 mod MomentLaws
-mod MoveLaws
 mod NoteLaws
 mod PointLaws
 mod PointMoments
+mod QuietMoves

@@ -1,5 +1,5 @@
 -- The choice point of a mark.
-use Rattle.std.proofs.Common.{◌≡◌, ◌<◌, ℕ, zero, suc, ◌+◌, List, [], ◌∷◌, ◌++◌, map, length, take, drop, reverse, get_or, refl, sym, ap, subst, ◌∙◌, arith}
+use Rattle.std.proofs.Common.{◌≡◌, ◌<◌, ◌≤◌, ℕ, zero, suc, ◌+◌, List, [], ◌∷◌, ◌++◌, map, length, take, drop, reverse, get_or, refl, sym, ap, subst, ◌∙◌, arith}
 use Rattle.std.specs.Prelude.{if◌then◌else◌, slice_set}
 use Rattle.std.proofs.lemmas.Bool.{eq-eqb, ne_eqb}
 use Rattle.std.proofs.lemmas.List.{length-append, append_assoc, append-nil, reverse-append, map-append, take-append-drop, length-take-le, drop_more, get_or_at, set_at}
@@ -73,8 +73,8 @@ module _ (height : ℕ) where
         (each_weaker (λ q. q.below < p.below) (λ q. q.below < height) (λ q below. omega (arith, below, lt)) (take place points) before_place) (subst (λ r. r.below < height) is lt)
 
     -- the upper half is left out
-    pub upper_half : height < p.below → AllByRecursion (λ q. height < q.below) (drop place points)
-    upper_half lt = subst (AllByRecursion (λ q. height < q.below)) (sym (last_part points place p d less is))
+    pub upper_half : (p.below ≡ height → ⊥) → height ≤ p.below → AllByRecursion (λ q. height < q.below) (drop place points)
+    upper_half ne le = let lt : height < p.below = omega (arith, ne, le) in subst (AllByRecursion (λ q. height < q.below)) (sym (last_part points place p d less is))
         (lt, each_weaker (λ q. p.below < q.below) (λ q. height < q.below) (λ q above. omega (arith, above, lt)) (drop (place + 1) points) after_place)
 
   pub found_is : (points : List code.ChoicePoint) (place : ℕ) (d : code.ChoicePoint) (at : IsFound height points place) → get_or points place d ≡ at.found

@@ -8,4 +8,5 @@ pub mod Newest
 pub mod Notes
 pub mod Stacks
 pub mod Stages
+pub mod Turns
 pub mod Views

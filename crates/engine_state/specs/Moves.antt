@@ -1,75 +1,54 @@
--- What moves of the engine do.
+-- What a move of the engine promises of a run.
 -- The headline does not rest on this file.
-use Rattle.std.specs.Prelude.{◌≡◌, ◌≤◌, ◌<◌, ℕ, List, [], ◌∷◌, ◌++◌, length, Option, None, Some}
+use Rattle.std.specs.Prelude.{◌≡◌, ◌≤◌, ◌<◌, ℕ, suc, List, []}
 use Rattle.prog_data.specs.declared.programs.Program.{Program}
 use Rattle.prog_data.specs.declared.events.Event.{Event}
-use Rattle.machine_model.specs.State.{Choice, State, Phase, Going}
+use Rattle.machine_model.specs.State.{State, Phase, Going, Trace}
 use Rattle.machine_model.specs.Tests.{Tests}
-use Rattle.machine_model.specs.Continues.{at_phase, Leads}
-use Rattle.engine_state.specs.declared.engine.Engine as code
-use Rattle.engine_state.specs.declared.stages.Stage as code_stage
-use Rattle.engine_state.specs.declared.stages.Setting.{Setting}
-use Rattle.engine_state.specs.declared.points.Alternative as code_alternative
-use Rattle.term_heap.specs.Changes.{size_of, value_of, undone}
-use Rattle.engine_state.specs.Engines.{Task, Cuts, alternative_choices}
-use Rattle.engine_state.specs.Stacks.{width}
-use Rattle.engine_state.specs.Views.{as_links, as_alternative}
-use Rattle.engine_state.specs.Notes.{IsAlternativeNoted}
-use Rattle.engine_state.specs.Moments.{IsWide, IsAlternativePlaced}
+use Rattle.machine_model.specs.Step.{step}
+use Rattle.machine_model.specs.Run.{steps, then_trace}
+use Rattle.machine_model.specs.Continues.{at_phase, left_after, Leads}
+use Rattle.machine_model.specs.Leaner.{IsLeaner}
+use Rattle.machine_model.specs.LeanerLaws.{IsDone, LeanerStates, TellTheSame}
 use Rattle.engine_state.specs.Fewest.{fewest_steps, IsOverAfter}
-use Rattle.engine_state.specs.Stages.{choices_at, tasks_at, phase_of, IsKept, IsWhole}
-
--- an engine became another one, with the same heap and these choices; the tasks from the links up to one on stay
-pub record GoesTo (old : code.Engine) (rest : ℕ) (choices : List Choice) (new : code.Engine) : Type 0 where
-  pub program : new.program.now ≡ old.program.now
-  pub heap : new.heap ≡ old.heap
-  pub calls : new.calls ≡ old.calls
-  pub query : new.query ≡ old.query
-  pub choices_are : choices_at new ≡ choices
-  pub tasks : (j : ℕ) → j ≤ rest → tasks_at new j ≡ tasks_at old j
-  pub kept : IsKept new
-  pub there : rest ≤ length new.links.items
-
--- a task was put before the tasks from a link on, in a link with this number
-pub record HasPushed (old : code.Engine) (task : Task) (rest k : ℕ) (new : code.Engine) : Type 0 where
-  pub goes : GoesTo old rest (choices_at old) new
-  pub first : tasks_at new k ≡ task ∷ tasks_at old rest
-  pub first_there : k ≤ length new.links.items
-  pub above : rest < k
-
--- the newest choice was taken off, which an alternative stands for, and its moment was gone back to: the terms are those of that moment, and what the alternative names is there
-pub record HasTaken (old : code.Engine) (a : code_alternative.Alternative) (new : code.Engine) : Type 0 where
-  pub program : new.program.now ≡ old.program.now
-  pub calls : new.calls ≡ old.calls
-  pub query : new.query ≡ old.query
-  pub past : (n : ℕ) × (new.heap.changes ≡ undone n old.heap.changes)
-  pub choices : choices_at old ≡ alternative_choices (value_of new.heap.changes) (as_links new.notes.items new.links.items) new.query (as_alternative new.notes.items a) ++ choices_at new
-  pub single : width (as_alternative new.notes.items a) ≤ 1
-  pub kept : IsKept new
-  pub placed : IsAlternativePlaced new.program.now (size_of new.heap.changes) (length new.links.items) a
-  pub noted : IsAlternativeNoted (length new.notes.items) a
-  pub wide : IsWide a
-
--- a goal is to be run once, with these settings: a cut to this height comes before the tasks from a link on
-pub record IsOnce (old : code.Engine) (from : Setting) (now behind : ℕ) (to : Setting) (new : code.Engine) : Type 0 where
-  pub base : to.base ≡ from.base
-  pub place : to.place ≡ from.place
-  pub height : to.height ≡ length (choices_at old)
-  pub pushed : HasPushed old (Cuts now) behind to.rest new
 
 module _ (what : Tests) (program : Program) (bound : ℕ) where
-  -- a phase leads to another with these events and this number of tests, and fewer steps are left
-  pub record Moves (old : Phase) (events : List Event) (made : ℕ) (new : Phase) : Type 0 where
-    pub leads : Leads what program bound (at_phase old) [] made (record { untold = events; phase = new })
-    pub fewer : (n : ℕ) → IsOverAfter what program bound n old → IsOverAfter what program bound n new × (fewest_steps what program bound n new < fewest_steps what program bound n old)
+  -- a step from a state and so many more make this trace
+  pub record Makes (s : State) (t : Trace) : Type 0 where
+    pub more : ℕ
+    pub trace : steps what program bound (suc more) (Going s) ≡ t
 
-  -- a state leads to a phase without event and test
-  abbrev pub IsQuietMove : State → Option Phase → Type 0
-  IsQuietMove s None = ⊥
-  IsQuietMove s (Some p) = Moves (Going s) [] 0 p
+  -- a phase leads to what this trace tells, with its tests, and to its phase; fewer steps than end the old run end the new one
+  pub record Moves (old : Phase) (t : Trace) : Type 0 where
+    pub leads : Leads what program bound (at_phase old) [] t.tests (left_after t)
+    pub fewer : (k : ℕ) → IsOverAfter what program bound k old → (j : ℕ) × (j < k) × IsOverAfter what program bound j t.phase
 
--- an engine moved from a state of it on, whatever is tested, without event and test
-pub record HasMoved (old : code.Engine) (from : State) (new : code.Engine) (to : code_stage.Stage) : Type 0 where
-  pub program : new.program.now ≡ old.program.now
-  pub moves : (what : Tests) (bound : ℕ) → IsQuietMove what old.program.now bound from (phase_of new to)
-  pub whole : IsWhole new to
+  -- how moves are made and put together
+  pub record MovesCompose : Type 0 where
+    -- one step
+    pub one_step : (s : State) (t : Trace) → step what program bound s ≡ t → Makes s t
+    -- steps of the semantics
+    pub made : (s : State) (t : Trace) → Makes s t → Moves (Going s) t
+    -- two moves in a row
+    pub onward : (p : Phase) (t u : Trace) → Moves p t → Moves t.phase u → Moves p (then_trace t u)
+    -- a move, and then to a state that tells the same
+    pub after : (p : Phase) (events : List Event) (tests : ℕ) (s s' : State) → Moves p (record { events = events; tests = tests; phase = Going s }) → TellTheSame program s s' →
+        Moves p (record { events = events; tests = tests; phase = Going s' })
+    -- first to a state that tells the same, and then a move
+    pub before : (s s' : State) (t : Trace) → TellTheSame program s s' → Moves (Going s') t → Moves (Going s) t
+    -- steps of the semantics keep that a state is its own leaner one
+    pub own : LeanerStates program → (s s' : State) (t : Trace) → IsLeaner program s s → Makes s t → t.phase ≡ Going s' → IsDone s'.current → IsLeaner program s' s'
+
+  -- what the least number of steps is
+  pub record FewestLeft : Type 0 where
+    -- the run is over after it
+    pub enough : (n : ℕ) (p : Phase) → IsOverAfter what program bound n p → IsOverAfter what program bound (fewest_steps what program bound n p) p
+    -- and after more
+    pub longer : (j k : ℕ) (p : Phase) → j ≤ k → IsOverAfter what program bound j p → IsOverAfter what program bound k p
+    -- a state that tells the same has no more steps left
+    pub leaner : (m n : ℕ) (s s' : State) → TellTheSame program s s' → IsOverAfter what program bound m (Going s) → IsOverAfter what program bound n (Going s') →
+        fewest_steps what program bound n (Going s') ≤ fewest_steps what program bound m (Going s)
+    -- a move leaves fewer
+    pub moved : (m n : ℕ) (p : Phase) (t : Trace) → Moves p t → IsOverAfter what program bound m p → IsOverAfter what program bound n t.phase → fewest_steps what program bound n t.phase < fewest_steps what program bound m p
+    -- some number of steps ends each run
+    pub some : (p : Phase) → (n : ℕ) × IsOverAfter what program bound n p

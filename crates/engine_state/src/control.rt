@@ -3,12 +3,13 @@ ghost use Rattle.std.specs.Prelude.{◌≤◌, ◌∷◌, length, IfOk};
 ghost use Rattle.prog_data.specs.declared.goals.Goal as goal;
 ghost use Rattle.engine_state.specs.Engines.{Cuts};
 ghost use Rattle.engine_state.specs.Stages.{tasks_at, doing, goal_state, IsKept, IsAt, IsDue};
-ghost use Rattle.engine_state.specs.Moves.{IsOnce, HasMoved};
+ghost use Rattle.engine_state.specs.Turns.{IsOnce, HasMoved};
 
 use crate::engine::Engine;
 use crate::points::Alternative;
 use crate::stages::{Setting, Stage};
 use crate::tasks::Task;
+use machine_model::leaner_states_law;
 use prog_data::Goal;
 use term_core::NoMemory;
 
@@ -18,6 +19,7 @@ impl<'p> Engine<'p> {
         requires { IsDue self.now goal.True setting }
         ensures { HasMoved self.now (goal_state self.now goal.True setting) self.now result }
     {
+        leaner_states_law();
         Stage::Doing(setting.rest)
     }
 
@@ -26,6 +28,7 @@ impl<'p> Engine<'p> {
         requires { IsDue self.now goal.Fail setting }
         ensures { HasMoved self.now (goal_state self.now goal.Fail setting) self.now result }
     {
+        leaner_states_law();
         Stage::Failed
     }
 
@@ -34,6 +37,7 @@ impl<'p> Engine<'p> {
         requires { IsDue self.old goal.Cut setting }
         ensures { HasMoved self.old (goal_state self.old goal.Cut setting) self.new result }
     {
+        leaner_states_law();
         self.cut_to(setting.height);
         Stage::Doing(setting.rest)
     }
@@ -43,6 +47,7 @@ impl<'p> Engine<'p> {
         requires { IsAt self.old (doing self.old (Cuts height ∷ tasks_at self.old rest)) (rest ≤ length self.old.links.items) }
         ensures { HasMoved self.old (doing self.old (Cuts height ∷ tasks_at self.old rest)) self.new result }
     {
+        leaner_states_law();
         self.cut_to(height);
         Stage::Doing(rest)
     }
@@ -61,6 +66,7 @@ impl<'p> Engine<'p> {
         requires { IsDue self.old (goal.Conj first.now second.now) setting }
         ensures { IfOk result (λ stage. HasMoved self.old (goal_state self.old (goal.Conj first.now second.now) setting) self.new stage) }
     {
+        leaner_states_law();
         let behind = self.put_off(second, setting)?;
         let before = Setting {
             base: setting.base,
@@ -85,6 +91,7 @@ impl<'p> Engine<'p> {
         requires { IsDue self.old (goal.Disj first.now second.now) setting }
         ensures { IfOk result (λ stage. HasMoved self.old (goal_state self.old (goal.Disj first.now second.now) setting) self.new stage) }
     {
+        leaner_states_law();
         self.let_go(setting.rest);
         let other = self.put_off(second, setting)?;
         self.add_point(Alternative::Resumes(other))?;
@@ -106,6 +113,7 @@ impl<'p> Engine<'p> {
         requires { IsDue self.old (goal.IfElse condition.now first.now second.now) setting }
         ensures { IfOk result (λ stage. HasMoved self.old (goal_state self.old (goal.IfElse condition.now first.now second.now) setting) self.new stage) }
     {
+        leaner_states_law();
         let now = self.height()?;
         self.let_go(setting.rest);
         let other = self.put_off(second, setting)?;
@@ -128,6 +136,7 @@ impl<'p> Engine<'p> {
         requires { IsDue self.old (goal.Not negated.now) setting }
         ensures { IfOk result (λ stage. HasMoved self.old (goal_state self.old (goal.Not negated.now) setting) self.new stage) }
     {
+        leaner_states_law();
         let now = self.height()?;
         self.let_go(setting.rest);
         self.add_point(Alternative::Resumes(setting.rest))?;

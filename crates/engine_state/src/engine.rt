@@ -7,7 +7,7 @@ ghost use Rattle.engine_state.specs.Views.{as_links, as_task, as_alternative};
 ghost use Rattle.engine_state.specs.Notes.{IsTaskNoted, IsAlternativeNoted};
 ghost use Rattle.engine_state.specs.Moments.{IsWide, IsGoalPlaced, IsTaskPlaced, IsAlternativePlaced};
 ghost use Rattle.engine_state.specs.Stages.{choices_at, IsKept};
-ghost use Rattle.engine_state.specs.Moves.{GoesTo, HasPushed, HasTaken};
+ghost use Rattle.engine_state.specs.Turns.{GoesTo, HasPushed, HasTaken};
 
 use crate::links::{let_go, push_link};
 use crate::points::{Alternative, ChoicePoint, cut_points, height, held_links, take_newest};
@@ -65,8 +65,8 @@ impl<'p> Engine<'p> {
     pub(crate) fn push(&mut self, task: Task<'p>, rest: u64) -> Result<u64, NoMemory>
         requires kept { IsKept self.old }
         requires rest { rest ≤ length self.old.links.items }
-        requires placed { IsTaskPlaced self.old.program.now (size_of self.old.heap.changes) task.entry }
-        requires noted { IsTaskNoted (length self.old.notes.items) task.entry }
+        requires placed { IsTaskPlaced self.old.program.now (size_of self.old.heap.changes) task }
+        requires noted { IsTaskNoted (length self.old.notes.items) task }
         ensures { IfOk result (λ k. HasPushed self.old (as_task self.old.notes.items task.entry) rest k self.new) }
     {
         let held = held_links(self.points.as_slice());

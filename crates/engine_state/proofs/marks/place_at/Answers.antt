@@ -27,7 +27,7 @@ halves-preserved c =
       ends = omega (arith, c.halves-test.true);
       within = omega (arith, less);
       lower = c.halves.invariant.lower;
-      upper = upper_half c.args.height c.args.points.now middle _ _ c.requires less refl (omega (arith, c.if-below-height.false, c.if-below-height-2.false));
+      upper = upper_half c.args.height c.args.points.now middle _ _ c.requires less refl c.if-below-height.false c.if-below-height-2.false;
     }
 
 pub returns : goal.returns

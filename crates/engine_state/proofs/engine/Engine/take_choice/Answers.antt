@@ -15,5 +15,5 @@ returns-in-None c = let e = c.args.self.now in ap (choices_of e.heap.changes (as
 pub returns-in-Some : goal.returns-in-Some
 returns-in-Some c =
     let e = c.args.self.now in
-    has_taken e c.requires c.in-Some.point c.undo_to.new.self c.truncate.new.self c.truncate-2.new.self c.take_newest.new.points (c.in-Some.ensures.taken e.notes.items)
-    (c.in-Some.ensures.back e.program.now e.query e.heap.changes e.notes.items e.links.items c.requires.moments) (ap (λ h. h.changes) c.undo_to.ensures) c.truncate.ensures.items c.truncate-2.ensures.items
+    has_taken e c.requires c.in-Some.point c.undo_to.new.self c.truncate.new.self c.truncate-in-Some.new.self c.take_newest.new.points (c.in-Some.ensures.taken e.notes.items)
+    (c.in-Some.ensures.back e.program.now e.query e.heap.changes e.notes.items e.links.items c.requires.moments) (ap (λ h. h.changes) c.undo_to.ensures) c.truncate.ensures.items c.truncate-in-Some.ensures.items

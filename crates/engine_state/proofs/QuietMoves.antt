@@ -1,62 +1,70 @@
 -- Moves that are exact steps.
-use Rattle.std.proofs.Common.{◌≡◌, ◌≤◌, ◌<◌, ◌+◌, ℕ, suc, List, [], ◌∷◌, map, length, Some, Option, refl, sym, ap, subst, ◌∙◌, arith}
+use Rattle.std.proofs.Common.{◌≡◌, ◌≤◌, ◌<◌, ◌+◌, ℕ, zero, suc, List, [], ◌∷◌, map, length, Some, Option, refl, sym, ap, subst, ◌∙◌, arith}
 use Rattle.std.proofs.lemmas.Bool.{and_parts}
 use Rattle.std.specs.Prelude.{Bool, true}
 use Rattle.prog_data.specs.declared.goals.Goal.{Goal, out-Goal}
 use Rattle.prog_data.specs.declared.goals.Goal as goal
 use Rattle.prog_data.specs.declared.goals.Goal.TheVariants.{outs-True, outs-Fail, outs-Cut, outs-Conj, outs-Disj, outs-IfElse, outs-Not}
 use Rattle.prog_data.specs.declared.goals.Goal.TheOpen.{Goal-F}
+use Rattle.prog_data.specs.declared.events.Ending.{Ending}
 use Rattle.prog_data.specs.declared.programs.Program.{Program}
 use Rattle.prog_data.specs.Goals.{goal_instance}
 use Rattle.prog_data.specs.Programs.{IsProgram}
 use Rattle.prog_data.specs.Ranges.{is_goal_of, goal_step as range_step}
 use Rattle.prog_data.proofs.GoalFolds.{fold-Conj, fold-Disj, fold-IfElse, fold-Not}
-use Rattle.machine_model.specs.State.{Does, CutTo, Resume, Doing, Failed, State, Phase, Going, cut}
+use Rattle.machine_model.specs.State.{Does, CutTo, Resume, Doing, Failed, State, Phase, Going, Over, cut}
 use Rattle.machine_model.specs.Tests.{Tests, every_condition}
 use Rattle.machine_model.specs.Step.{step, goal_step, frame_of, quietly}
 use Rattle.machine_model.specs.Run.{Reaches}
 use Rattle.machine_model.specs.Continues.{at_phase, left_after, Leads}
 use Rattle.machine_model.specs.Leaner.{IsLeaner}
-use Rattle.machine_model.specs.LeanerLaws.{IsDone}
+use Rattle.machine_model.specs.LeanerLaws.{IsDone, LeanerStatesAreFound}
 use Rattle.machine_model.proofs.Continuing.{step_leads}
-use Rattle.machine_model.proofs.LeanerStates.{leaner_states}
 use Rattle.term_heap.specs.Changes.{value_of}
 use Rattle.term_heap.specs.Loads.{from_base}
 use Rattle.engine_state.specs.declared.engine.Engine as code
 use Rattle.engine_state.specs.declared.stages.Setting.{Setting}
 use Rattle.engine_state.specs.declared.stages.Stage as code_stage
 use Rattle.engine_state.specs.Engines.{Task, Runs, Cuts, as_state}
-use Rattle.engine_state.specs.Fewest.{fewest_steps, IsOverAfter}
+use Rattle.engine_state.specs.Fewest.{IsOverAfter}
 use Rattle.engine_state.specs.Moments.{IsGoalPlaced}
 use Rattle.engine_state.specs.Stages.{as_engine, choices_at, tasks_at, frame_now, doing, goal_state, phase_of, IsWhole}
-use Rattle.engine_state.specs.Moves.{Moves, IsQuietMove, HasMoved}
-use Rattle.engine_state.proofs.FewestLaws.{fewest_falls}
+use Rattle.engine_state.specs.Moves.{Moves}
+use Rattle.engine_state.specs.Turns.{IsQuietMove, HasMoved}
 use Rattle.engine_state.proofs.GoalInstances.{at_true, at_fail, at_cut, at_conj, at_disj, at_if, at_not}
+
+going_over : (s : State) (e : Ending) → Going s ≡ Over e → ⊥
+going_over s e x = cc
 
 -- one step
 
 module _ (what : Tests) (program : Program) (bound : ℕ) where
+  -- fewer steps end the run after one
+  one_fewer : (s : State) (k : ℕ) → IsOverAfter what program bound k (Going s) → (j : ℕ) × (j < k) × IsOverAfter what program bound j (step what program bound s).phase
+  one_fewer s zero is = absurd (going_over s is.0 is.1)
+  one_fewer s (suc j) is = (j, omega arith, is)
+
   -- a step without event and test is a move
-  quiet_move : (s : State) (p : Phase) → step what program bound s ≡ quietly p → Moves what program bound (Going s) [] 0 p
+  quiet_move : (s : State) (p : Phase) → step what program bound s ≡ quietly p → Moves what program bound (Going s) (quietly p)
   quiet_move s p e = record {
     leads = subst (λ t. Leads what program bound (at_phase (Going s)) [] t.tests (left_after t)) e (step_leads what program bound s);
-    fewer = λ n over.
-        let falls = (fewest_falls what program bound).falls n s over in
+    fewer = λ k over.
+        let less = one_fewer s k over in
         let next : (step what program bound s).phase ≡ p = ap (λ t. t.phase) e in
-        (subst (IsOverAfter what program bound n) next falls.0, omega (arith, falls.1, ap (fewest_steps what program bound n) next));
+        (less.0, less.1, subst (IsOverAfter what program bound less.0) next less.2);
   }
 
   -- what is its own leaner state leads to such a state
-  own_after : (s s' : State) → IsProgram program → step what program bound s ≡ quietly (Going s') → IsDone s'.current → IsLeaner program s s → IsLeaner program s' s'
-  own_after s s' ok e done own = (leaner_states program ok).reached what bound s s' own (record { count = 1; phase = ap (λ t. t.phase) e }) done
+  own_after : (s s' : State) → LeanerStatesAreFound → IsProgram program → step what program bound s ≡ quietly (Going s') → IsDone s'.current → IsLeaner program s s → IsLeaner program s' s'
+  own_after s s' found ok e done own = (found program ok).reached what bound s s' own (record { count = 1; phase = ap (λ t. t.phase) e }) done
 
 -- the engine moved by one step to a state
-pub moved_to : (old new : code.Engine) (from s : State) (to : code_stage.Stage) → new.program.now ≡ old.program.now → IsProgram old.program.now → ((what : Tests) (bound : ℕ) → step what old.program.now bound from ≡ quietly (Going s)) → IsDone s.current →
+pub moved_to : (old new : code.Engine) (from s : State) (to : code_stage.Stage) → new.program.now ≡ old.program.now → LeanerStatesAreFound → IsProgram old.program.now → ((what : Tests) (bound : ℕ) → step what old.program.now bound from ≡ quietly (Going s)) → IsDone s.current →
     IsLeaner old.program.now from from → phase_of new to ≡ Some (Going s) → (IsLeaner new.program.now s s → IsWhole new to) → HasMoved old from new to
-moved_to old new from s to same ok steps done own phase whole = record {
+moved_to old new from s to same found ok steps done own phase whole = record {
   program = same;
   moves = λ what bound. subst (IsQuietMove what old.program.now bound from) (sym phase) (quiet_move what old.program.now bound from (Going s) (steps what bound));
-  whole = whole (subst (λ p. IsLeaner p s s) (sym same) (own_after (every_condition old.program.now) old.program.now 0 from s ok (steps (every_condition old.program.now) 0) done own));
+  whole = whole (subst (λ p. IsLeaner p s s) (sym same) (own_after (every_condition old.program.now) old.program.now 0 from s found ok (steps (every_condition old.program.now) 0) done own));
 }
 
 -- parts of goals that are placed
