@@ -14,14 +14,14 @@ use Rattle.engine_state.specs.Engines.{Task, chain, alternative_choices, choices
 use Rattle.engine_state.specs.Stacks.{height_of, AreCounted, cut_points, IsPushed}
 use Rattle.engine_state.specs.Views.{as_task, as_alternative, as_point, as_links, as_points, LeadDown}
 use Rattle.engine_state.specs.Notes.{IsAlternativeNoted}
-use Rattle.engine_state.specs.Moments.{links_held, IsWide, IsAlternativePlaced, Moments, HasMoments}
+use Rattle.engine_state.specs.Moments.{links_held, IsWide, IsAlternativePlaced, ArePlaced, Moments, HasMoments}
 use Rattle.engine_state.specs.Kept.{IsLetGo}
 use Rattle.engine_state.specs.Stages.{choices_at, tasks_at, frame_now, doing, IsKept}
 use Rattle.engine_state.specs.Turns.{GoesTo, HasPushed}
 use Rattle.engine_state.proofs.ChoiceLaws.{pushed_choices, now_choices}
 use Rattle.engine_state.proofs.CutLaws.{heights, cuts, counted}
 use Rattle.engine_state.proofs.LinkLaws.{length_links}
-use Rattle.engine_state.proofs.MomentLaws.{made, held_within}
+use Rattle.engine_state.proofs.MomentLaws.{made, moment_now, held_within}
 use Rattle.engine_state.proofs.GivenLaws.{held, down}
 
 -- how many choices there are
@@ -44,6 +44,9 @@ links_enough e kept = omega (arith, (held_within e.program.now e.query e.heap.ch
 
 pub leads_down : (e : code.Engine) → IsKept e → LeadDown (reverse e.links.items)
 leads_down e kept = down e.program.now e.query e.heap.changes (length e.notes.items) (reverse e.links.items) (reverse e.points.items) kept.moments
+
+pub all_placed : (e : code.Engine) → IsKept e → ArePlaced e.program.now (size_of e.heap.changes) (length e.notes.items) (reverse e.links.items)
+all_placed e kept = (moment_now e.program.now e.query e.heap.changes (length e.notes.items) (reverse e.links.items) (reverse e.points.items) kept.moments).1
 
 module _ (old : code.Engine) (kept : IsKept old) where
   abbrev links : List code_link.Link

@@ -22,7 +22,7 @@ use Rattle.engine_state.proofs.MomentLaws.{undone_length, left_length, moment_no
 
 -- more notes
 
-task_more : (held more : ℕ) (t : code_task.Task) → held ≤ more → IsTaskNoted held t → IsTaskNoted more t
+pub task_more : (held more : ℕ) (t : code_task.Task) → held ≤ more → IsTaskNoted held t → IsTaskNoted more t
 task_more held more (task.Runs goal base h place) le is = tt
 task_more held more (task.Cuts h) le is = tt
 task_more held more (task.Fails h place) le is = tt

@@ -9,12 +9,12 @@ use Rattle.engine_state.specs.declared.points.ChoicePoint as code_point
 use Rattle.engine_state.specs.Engines.{chain}
 use Rattle.engine_state.specs.Views.{as_links, as_points}
 use Rattle.engine_state.specs.Notes.{IsTaskNoted, IsAlternativeNoted, AreLinksNoted, ArePointsNoted}
-use Rattle.engine_state.specs.Moments.{links_held, notes_held, notes_used, IsTaskPlaced, ArePlaced, Moments, HasMoments}
+use Rattle.engine_state.specs.Moments.{links_held, notes_held, notes_used, IsTaskPlaced, IsLinkPlaced, ArePlaced, Moments, HasMoments}
 use Rattle.engine_state.specs.Kept.{IsLetGo}
-use Rattle.engine_state.proofs.EachLaws.{each_reversed}
+use Rattle.engine_state.proofs.EachLaws.{each_reversed, each_at}
 use Rattle.engine_state.proofs.LinkLaws.{kept_chain, reversed_front}
 use Rattle.engine_state.proofs.MomentLaws.{used_within, placed_left, moment_now, held_within, added, let_go}
-use Rattle.engine_state.proofs.GivenLaws.{placed_noted, held_noted}
+use Rattle.engine_state.proofs.GivenLaws.{task_more, placed_noted, held_noted}
 use Rattle.engine_state.proofs.NoteLaws.{notes_stay}
 
 -- the notes of the newest link
@@ -26,6 +26,22 @@ newest_notes links n l d e is =
 pub none_used : (links : List code_link.Link) → length links ≡ 0 → notes_used (reverse links) ≡ 0
 none_used [] e = refl
 none_used (l ∷ links) e = absurd (omega (arith, e))
+
+-- each link is placed
+
+each_placed : (program : Program) (cells notes most links : ℕ) (items : List code_link.Link) → notes ≤ most → length items ≤ links → ArePlaced program cells notes items → AllByRecursion (IsLinkPlaced program cells most links) items
+each_placed program cells notes most links [] le few are = tt
+each_placed program cells notes most links (l ∷ older) le few are = (
+  record { placed = are.0; noted = task_more l.notes most l.task (omega (arith, le, are.2)) are.1; next = omega (arith, few, are.3) },
+  each_placed program cells l.notes most links older (omega (arith, le, are.2)) (omega (arith, few)) are.4,
+)
+
+pub link_placed : (program : Program) (cells notes : ℕ) (items : List code_link.Link) (i : ℕ) (l d : code_link.Link) → i < length items → l ≡ get_or items i d → ArePlaced program cells notes (reverse items) → IsLinkPlaced program cells notes (length items) l
+link_placed program cells notes items i l d less is are =
+    let all : AllByRecursion (IsLinkPlaced program cells notes (length items)) (reverse items) = each_placed program cells notes notes (length items) (reverse items) (omega arith) (omega (arith, length-reverse items)) are in
+    let forward : AllByRecursion (IsLinkPlaced program cells notes (length items)) items =
+    subst (AllByRecursion (IsLinkPlaced program cells notes (length items))) (reverse-reverse items) (each_reversed (IsLinkPlaced program cells notes (length items)) (reverse items) all) in
+    subst (IsLinkPlaced program cells notes (length items)) (sym is) (each_at (IsLinkPlaced program cells notes (length items)) items i d less forward)
 
 -- notes that the newest link uses are enough for it and those below it
 used_noted : (program : Program) (cells notes most : ℕ) (links : List code_link.Link) → notes_used links ≤ most → ArePlaced program cells notes links → AreLinksNoted most links

@@ -68,6 +68,12 @@ module _ (program : Program) where
   IsTaskPlaced cells (task.Fails h place) = ⊤
   IsTaskPlaced cells (task.Leaves e) = IsCallPlaced cells e.pred e.args × (is_idle e ≡ false)
 
+  -- a link's cells, notes and next link are among so many
+  pub record IsLinkPlaced (cells notes links : ℕ) (l : code_link.Link) : Type 0 where
+    pub placed : IsTaskPlaced cells l.task
+    pub noted : IsTaskNoted notes l.task
+    pub next : l.next ≤ links
+
   -- an alternative has its cells among so many, its link among so many, and its clauses among those of its predicate
   abbrev pub IsAlternativePlaced : (cells links : ℕ) → code_alternative.Alternative → Type 0
   IsAlternativePlaced cells links (alternative.Resumes rest) = rest ≤ links

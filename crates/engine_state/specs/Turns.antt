@@ -8,13 +8,14 @@ use Rattle.machine_model.specs.Step.{quietly}
 use Rattle.engine_state.specs.declared.engine.Engine as code
 use Rattle.engine_state.specs.declared.stages.Stage as code_stage
 use Rattle.engine_state.specs.declared.stages.Setting.{Setting}
+use Rattle.engine_state.specs.declared.tasks.Link as code_link
 use Rattle.engine_state.specs.declared.points.Alternative as code_alternative
 use Rattle.term_heap.specs.Changes.{size_of, value_of, undone}
 use Rattle.engine_state.specs.Engines.{Task, Cuts, alternative_choices}
 use Rattle.engine_state.specs.Stacks.{width}
-use Rattle.engine_state.specs.Views.{as_links, as_alternative}
+use Rattle.engine_state.specs.Views.{as_links, as_task, as_alternative}
 use Rattle.engine_state.specs.Notes.{IsAlternativeNoted}
-use Rattle.engine_state.specs.Moments.{IsWide, IsAlternativePlaced}
+use Rattle.engine_state.specs.Moments.{IsWide, IsLinkPlaced, IsAlternativePlaced}
 use Rattle.engine_state.specs.Moves.{Moves}
 use Rattle.engine_state.specs.Stages.{choices_at, tasks_at, phase_of, IsKept, IsWhole}
 
@@ -35,6 +36,11 @@ pub record HasPushed (old : code.Engine) (task : Task) (rest k : ℕ) (new : cod
   pub first : tasks_at new k ≡ task ∷ tasks_at old rest
   pub first_there : k ≤ length new.links.items
   pub above : rest < k
+
+-- a link has the first of the tasks from a number on; what it names is there, and so is the link behind it
+pub record IsFirst (e : code.Engine) (k : ℕ) (l : code_link.Link) : Type 0 where
+  pub tasks : tasks_at e k ≡ as_task e.notes.items l.task ∷ tasks_at e l.next
+  pub is_placed : IsLinkPlaced e.program.now (size_of e.heap.changes) (length e.notes.items) (length e.links.items) l
 
 -- the newest choice was taken off, which an alternative stands for, and its moment was gone back to: the terms are those of that moment, and what the alternative names is there
 pub record HasTaken (old : code.Engine) (a : code_alternative.Alternative) (new : code.Engine) : Type 0 where

@@ -6,10 +6,10 @@ ghost use Rattle.engine_state.specs.Engines.{Runs, alternative_choices};
 ghost use Rattle.engine_state.specs.Views.{as_links, as_task, as_alternative};
 ghost use Rattle.engine_state.specs.Notes.{IsTaskNoted, IsAlternativeNoted};
 ghost use Rattle.engine_state.specs.Moments.{IsWide, IsGoalPlaced, IsTaskPlaced, IsAlternativePlaced};
-ghost use Rattle.engine_state.specs.Stages.{choices_at, IsKept};
-ghost use Rattle.engine_state.specs.Turns.{GoesTo, HasPushed, HasTaken};
+ghost use Rattle.engine_state.specs.Stages.{choices_at, tasks_at, IsKept};
+ghost use Rattle.engine_state.specs.Turns.{GoesTo, IsFirst, HasPushed, HasTaken};
 
-use crate::links::{let_go, push_link};
+use crate::links::{let_go, link_at, push_link};
 use crate::points::{Alternative, ChoicePoint, cut_points, height, held_links, take_newest};
 use crate::stages::Setting;
 use crate::tasks::{Link, Task};
@@ -41,6 +41,17 @@ impl<'p> Engine<'p> {
     {
         let height = height(self.points.as_slice())?;
         Ok(height)
+    }
+
+    /// The link with a number, if there is one.
+    pub(crate) fn link(&self, number: u64) -> Option<Link<'p>>
+        requires { IsKept self.now }
+        ensures { MatchOption result (tasks_at self.now number ≡ []) (IsFirst self.now number) }
+    {
+        match link_at(self.links.as_slice(), number) {
+            None => None,
+            Some(link) => Some(link),
+        }
     }
 
     /// Lets go of links and notes that neither the tasks from a link on nor choices use.

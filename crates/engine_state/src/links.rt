@@ -1,12 +1,12 @@
 // Links with what is to be done, numbered from 1.
-ghost use Rattle.std.specs.Prelude.{◌≡◌, ◌≤◌, ◌∷◌, ◌++◌, [], ℕ, List, length, reverse, take, max, IfOk, OnOk, OnErr, MatchOption};
+ghost use Rattle.std.specs.Prelude.{◌≡◌, ◌≤◌, ◌∷◌, ◌++◌, [], ℕ, List, length, reverse, take, max, IfOk, OnOk, OnErr, IfSome, MatchOption};
 ghost use Rattle.prog_data.specs.declared.programs.Program.{Program};
 ghost use Rattle.term_heap.specs.Changes.{Change, size_of};
 ghost use Rattle.engine_state.specs.Engines.{chain};
 ghost use Rattle.engine_state.specs.Stacks.{IsPushed};
 ghost use Rattle.engine_state.specs.Views.{as_task, as_links, LeadDown};
 ghost use Rattle.engine_state.specs.Notes.{IsTaskNoted};
-ghost use Rattle.engine_state.specs.Moments.{links_held, notes_held, notes_used, IsTaskPlaced, HasMoments};
+ghost use Rattle.engine_state.specs.Moments.{links_held, notes_held, notes_used, IsTaskPlaced, IsLinkPlaced, ArePlaced, HasMoments};
 ghost use Rattle.engine_state.specs.Kept.{IsLetGo};
 
 use crate::points::{ChoicePoint, held_links, held_notes};
@@ -40,7 +40,8 @@ pub(crate) fn push_link<'p>(
 /// The link with a number, if there is one.
 pub(crate) fn link_at<'p>(links: &[Link<'p>], number: u64) -> Option<Link<'p>>
     requires { LeadDown (reverse links.now) }
-    ensures { (notes : List ℕ) → MatchOption result (chain (as_links notes links.now) number ≡ []) (λ l. chain (as_links notes links.now) number ≡ as_task notes l.task ∷ chain (as_links notes links.now) l.next) }
+    ensures tasks { (notes : List ℕ) → MatchOption result (chain (as_links notes links.now) number ≡ []) (λ l. chain (as_links notes links.now) number ≡ as_task notes l.task ∷ chain (as_links notes links.now) l.next) }
+    ensures placed { (program : Program) (cells notes : ℕ) → ArePlaced program cells notes (reverse links.now) → IfSome result (IsLinkPlaced program cells notes (length links.now)) }
 {
     if number == 0 {
         return None;
