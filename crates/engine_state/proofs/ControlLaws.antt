@@ -49,6 +49,13 @@ module _ (old new : code.Engine) (from : State) (rest : ℕ) (cs : List Choice) 
 pub stays : (e : code.Engine) (rest : ℕ) → IsKept e → rest ≤ length e.links.items → GoesTo e rest (choices_at e) e
 stays e rest kept there = record { program = refl; heap = refl; calls = refl; query = refl; choices_are = refl; tasks = λ j le. refl; kept = kept; there = there }
 
+-- a cut to a height
+
+module _ (found : LeanerStatesAreFound) (old new : code.Engine) where
+  pub cuts_moved : (h rest most : ℕ) → IsAt old (doing old (Cuts h ∷ tasks_at old rest)) (rest ≤ length old.links.items) → rest ≤ most → GoesTo old most (cut h (choices_at old)) new → HasMoved old (doing old (Cuts h ∷ tasks_at old rest)) new (stage.Doing rest)
+  cuts_moved h rest most at le goes =
+      doing_moved old new (doing old (Cuts h ∷ tasks_at old rest)) most (cut h (choices_at old)) (tasks_at old rest) found at.kept.in_range at.own goes rest (goes.tasks rest le) (omega (arith, le, goes.there)) (λ what bound. refl)
+
 -- each goal
 
 module _ (found : LeanerStatesAreFound) (old new : code.Engine) (s : Setting) where
@@ -61,10 +68,6 @@ module _ (found : LeanerStatesAreFound) (old new : code.Engine) (s : Setting) wh
   pub cut_moved : (most : ℕ) → IsDue old goal.Cut s → s.rest ≤ most → GoesTo old most (cut s.height (choices_at old)) new → HasMoved old (goal_state old goal.Cut s) new (stage.Doing s.rest)
   cut_moved most due le goes =
       doing_moved old new (goal_state old goal.Cut s) most (cut s.height (choices_at old)) (tasks_at old s.rest) found due.kept.in_range due.own goes s.rest (goes.tasks s.rest le) (omega (arith, le, goes.there)) (λ what bound. cut_step what old.program.now bound old s)
-
-  pub cuts_moved : (h rest most : ℕ) → IsAt old (doing old (Cuts h ∷ tasks_at old rest)) (rest ≤ length old.links.items) → rest ≤ most → GoesTo old most (cut h (choices_at old)) new → HasMoved old (doing old (Cuts h ∷ tasks_at old rest)) new (stage.Doing rest)
-  cuts_moved h rest most at le goes =
-      doing_moved old new (doing old (Cuts h ∷ tasks_at old rest)) most (cut h (choices_at old)) (tasks_at old rest) found at.kept.in_range at.own goes rest (goes.tasks rest le) (omega (arith, le, goes.there)) (λ what bound. refl)
 
   pub conj_moved : (a b : Goal) (behind : ℕ) (to : code_stage.Stage) → IsDue old (goal.Conj a b) s → HasPushed old (Runs b s.base s.height s.place) s.rest behind new →
       phase_of new to ≡ Some (Going (goal_state new a (record s { rest = behind }))) → (IsDue new a (record s { rest = behind }) → IsWhole new to) → HasMoved old (goal_state old (goal.Conj a b) s) new to

@@ -8,7 +8,8 @@ use Rattle.engine_state.proofs.engine.Engine.push.Goals as goal
 pub push_link-requires-clause-held : goal.push_link-requires-clause-held
 push_link-requires-clause-held c =
     let e = c.args.self.now in
-    subst (λ ps. links_held (reverse ps) ≤ length e.links.items → c.held_links-held.result ≤ length e.links.items) (sym c.as_slice.ensures.value) (λ le. omega (arith, c.held_links-held.ensures, le)) (links_enough e c.requires.kept)
+    let held : c.held_links-held.result ≡ links_held (reverse e.points.items) = subst (λ ps. c.held_links-held.result ≡ links_held (reverse ps)) c.as_slice.ensures.value c.held_links-held.ensures in
+    omega (arith, held, links_enough e c.requires.kept)
 
 pub push_link-requires-clause-down : goal.push_link-requires-clause-down
 push_link-requires-clause-down c = leads_down c.args.self.now c.requires.kept
