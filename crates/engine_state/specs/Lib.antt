@@ -6,3 +6,8 @@ pub mod Newest
 pub mod Notes
 pub mod Stacks
 pub mod Views
+pub mod Within
+pub mod Tested
+pub mod Moves
+pub mod StepsMade
+pub mod MoveLaws
