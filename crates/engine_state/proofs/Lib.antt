@@ -11,3 +11,12 @@ mod MarkLaws
 mod MomentLaws
 mod NoteLaws
 mod PointLaws
+mod WithinLaws
+mod TestedLaws
+mod Composing
+pub mod StepsLeft
+mod MadeSteps
+mod CutStays
+mod EnteredLaws
+mod EquatedLaws
+mod SolvedMoves

@@ -25,9 +25,9 @@ untested_trace next = λ i. record { events = next.events; tests = none_more nex
 
 one_found : (stops : Bool) (counts c : ℕ) (f : Finding) (next : Trace) → after_test stops counts c f next ≡ tested_trace (found stops counts c f) next
 one_found stops counts c Holds next = refl
-one_found true counts c Breaks next = λ i. record { events = []; tests = none_after counts (~ i); phase = Over (ending.Violated c) }
+one_found true counts c Breaks next = sym (λ i. record { events = []; tests = none_after counts i; phase = Over (ending.Violated c) })
 one_found false counts c Breaks next = refl
-one_found stops counts c Unknown next = λ i. record { events = []; tests = none_after counts (~ i); phase = Over ending.Bound }
+one_found stops counts c Unknown next = sym (λ i. record { events = []; tests = none_after counts i; phase = Over ending.Bound })
 
 -- tests, and further ones
 

@@ -5,6 +5,7 @@ mod grounds;
 mod laws;
 mod links;
 mod marks;
+mod move_laws;
 mod notes;
 mod points;
 mod tasks;
@@ -12,4 +13,9 @@ mod tasks;
 pub use laws::{
     below_law, bound_law, choices_law, cut_law, entered_law, exit_law, moments_law, new_point_law,
     notes_law, steps_law,
+};
+pub use move_laws::{
+    bindings_law, builtins_law, calls_law, clauses_law, cuts_law, equated_law, exits_law,
+    failures_law, goals_law, moves_law, solved_law, steps_left_law, tasks_law, tests_law,
+    variables_law,
 };
