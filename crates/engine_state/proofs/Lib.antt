@@ -20,3 +20,5 @@ mod CutStays
 mod EnteredLaws
 mod EquatedLaws
 mod SolvedMoves
+mod FindingLaws
+mod LeanerMoves

@@ -11,3 +11,4 @@ pub mod Tested
 pub mod Moves
 pub mod StepsMade
 pub mod MoveLaws
+pub mod Findings

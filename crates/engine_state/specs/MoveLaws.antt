@@ -1,6 +1,6 @@
 -- Clauses that are tried and terms that are made equal, with any most general values in place of those of the semantics.
 -- The headline does not rest on this file.
-use Rattle.std.specs.Prelude.{◌≡◌, ◌≤◌, ◌+◌, ℕ, List, ◌∷◌, ◌++◌, length, replicate, Some, if◌then◌else◌}
+use Rattle.std.specs.Prelude.{◌≡◌, ◌≤◌, ◌+◌, ℕ, List, [], ◌∷◌, ◌++◌, length, replicate, None, Some, if◌then◌else◌}
 use Rattle.term_core.specs.declared.terms.Term.{Term}
 use Rattle.term_core.specs.declared.equations.Equation.{Equation}
 use Rattle.term_core.specs.declared.equations.Binding.{Binding}
@@ -14,12 +14,13 @@ use Rattle.prog_data.specs.declared.goals.Goal as goal
 use Rattle.prog_data.specs.declared.programs.Clause.{Clause}
 use Rattle.prog_data.specs.declared.programs.Place.{Place}
 use Rattle.prog_data.specs.declared.programs.Program.{Program}
+use Rattle.prog_data.specs.declared.events.Event.{Event}
 use Rattle.prog_data.specs.Goals.{without_exit}
-use Rattle.machine_model.specs.State.{Frame, Call, Choice, State, Going, frame_instance, cut}
+use Rattle.machine_model.specs.State.{Does, Exits, Frame, Call, Choice, Doing, State, Phase, Going, Trace, frame_instance, cut}
 use Rattle.machine_model.specs.Tests.{Tests}
-use Rattle.machine_model.specs.Step.{Equates, entered, quietly}
+use Rattle.machine_model.specs.Step.{Equates, frame_of, entered, quietly}
 use Rattle.machine_model.specs.Leaner.{clause_at, IsLeaner}
-use Rattle.machine_model.specs.LeanerLaws.{before_goal, before_try, after_try, head_equations}
+use Rattle.machine_model.specs.LeanerLaws.{AreBelow, IsCurrentBelow, before_goal, before_try, after_try, head_equations}
 use Rattle.term_heap.specs.declared.cells.Cell.TheVariants.{Free}
 use Rattle.term_heap.specs.Changes.{Change, Grows, size_of, value_of, IsMade}
 use Rattle.unify_core.specs.Heads as heads
@@ -73,3 +74,13 @@ module _ (what : Tests) (program : Program) (bound : ℕ) where
         IsLeaner program (before_goal made n cs g h place rest) (before_goal made n cs g h place rest) → IsMostGeneral (equation x y) value →
         Moves what program bound (Going (before_goal made n cs g h place rest)) (quietly (Going (doing made n cs (frame_instance value rest))))
         × IsLeaner program (doing made n cs (frame_instance value rest)) (doing made n cs (frame_instance value rest))
+
+  -- what moves on to or from a leaner state, and to or from one with another number above its variables
+  pub record LeanersMove : Type 0 where
+    pub after : (p : Phase) (events : List Event) (tests : ℕ) (s s' : State) → Moves what program bound p (record { events = events; tests = tests; phase = Going s }) → IsLeaner program s s' →
+        Moves what program bound p (record { events = events; tests = tests; phase = Going s' })
+    pub before : (s s' : State) (t : Trace) → IsLeaner program s s' → Moves what program bound (Going s') t → Moves what program bound (Going s) t
+    pub numbered : (n : ℕ) (s : State) → IsLeaner program s s → AreBelow n s.choices → IsCurrentBelow n s.current → IsLeaner program s (record s { fresh = n }) × IsLeaner program (record s { fresh = n }) (record s { fresh = n })
+    -- an exit that tests nothing may be left out behind the first goal
+    pub without_exit : (s s' : State) (g : Goal) (h : ℕ) (place : Place) (p : ℕ) (args : List Term) (rest : Frame) → s'.current ≡ Doing (frame_of (Does g h place ∷ Exits p args [] None ∷ rest.items) rest) → IsLeaner program s s' →
+        IsLeaner program s (record s' { current = Doing (frame_of (Does g h place ∷ rest.items) rest) })

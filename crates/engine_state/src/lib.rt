@@ -1,6 +1,7 @@
 //! What the engine holds over cells, and the state that it is.
 #![tactic(auto)]
 
+mod findings;
 mod grounds;
 mod laws;
 mod links;
@@ -16,6 +17,6 @@ pub use laws::{
 };
 pub use move_laws::{
     bindings_law, builtins_law, calls_law, clauses_law, cuts_law, equated_law, exits_law,
-    failures_law, goals_law, moves_law, solved_law, steps_left_law, tasks_law, tests_law,
+    failures_law, goals_law, leaners_law, moves_law, solved_law, steps_left_law, tasks_law, tests_law,
     variables_law,
 };

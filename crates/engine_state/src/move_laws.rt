@@ -8,7 +8,7 @@ ghost use Rattle.engine_state.specs.Within.{TasksWithin, VariablesWithin};
 ghost use Rattle.engine_state.specs.Tested.{TestsJoin};
 ghost use Rattle.engine_state.specs.Moves.{MovesCompose, FewestLeft};
 ghost use Rattle.engine_state.specs.StepsMade.{GoalsMake, BuiltinsMake, CallsMake, ExitsMake, FailuresMake};
-ghost use Rattle.engine_state.specs.MoveLaws.{CutsStay, ClausesEnter, SolvedHaveBindings, EquatedAlike, SolvedMove};
+ghost use Rattle.engine_state.specs.MoveLaws.{CutsStay, ClausesEnter, SolvedHaveBindings, EquatedAlike, SolvedMove, LeanersMove};
 
 use machine_model::{leaner_law, leaner_states_law};
 use term_core::unification_law;
@@ -90,6 +90,14 @@ pub fn solved_law()
     ensures { (what : Tests) (program : Program) (bound : ℕ) → IsProgram program → SolvedMove what program bound }
 {
     unification_law();
+    leaner_law();
+    leaner_states_law();
+}
+
+/// What moves on to or from a leaner state.
+pub fn leaners_law()
+    ensures { (what : Tests) (program : Program) (bound : ℕ) → IsProgram program → LeanersMove what program bound }
+{
     leaner_law();
     leaner_states_law();
 }
