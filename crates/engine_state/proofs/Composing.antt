@@ -82,15 +82,17 @@ module _ (what : Tests) (program : Program) (bound : ℕ) where
   pub made_moves : (s : State) (t : Trace) → Makes what program bound s t → Moves what program bound (Going s) t
   made_moves s t makes =
       let first = step what program bound s in
-      subst (Moves what program bound (Going s)) makes.1 (then_steps makes.0 (Going s) first.phase first.events first.tests (first_move s))
+      subst (Moves what program bound (Going s)) makes.trace (then_steps makes.more (Going s) first.phase first.events first.tests (first_move s))
 
   pub one_step : (s : State) (t : Trace) → step what program bound s ≡ t → Makes what program bound s t
-  one_step s t is = (0, quiet_after (step what program bound s) ∙ is)
+  one_step s t is = record { more = 0; trace = quiet_after (step what program bound s) ∙ is }
 
   -- a quiet step, and then steps that are quiet together
   pub quiet_step : (s s' : State) (p : Phase) → step what program bound s ≡ quietly (Going s') → Makes what program bound s' (quietly p) → Makes what program bound s (quietly p)
-  quiet_step s s' p is makes =
-      (suc makes.0, ap (λ t. then_trace t (steps what program bound (suc makes.0) t.phase)) is ∙ ap (then_trace (quietly (Going s'))) makes.1 ∙ quiet_twice (Going s') p)
+  quiet_step s s' p is makes = record {
+    more = suc makes.more;
+    trace = ap (λ t. then_trace t (steps what program bound (suc makes.more) t.phase)) is ∙ ap (then_trace (quietly (Going s'))) makes.trace ∙ quiet_twice (Going s') p;
+  }
 
   -- states that tell the same
 
@@ -137,7 +139,7 @@ module _ (what : Tests) (program : Program) (bound : ℕ) where
   }
 
   made_own : LeanerStates program → (s s' : State) (t : Trace) → IsLeaner program s s → Makes what program bound s t → t.phase ≡ Going s' → IsDone s'.current → IsLeaner program s' s'
-  made_own states s s' t own makes is done = states.reached what bound s s' own (record { count = suc makes.0; phase = ap (λ t. t.phase) makes.1 ∙ is }) done
+  made_own states s s' t own makes is done = states.reached what bound s s' own (record { count = suc makes.more; phase = ap (λ t. t.phase) makes.trace ∙ is }) done
 
   pub moves_compose : MovesCompose what program bound
   moves_compose = record { one_step = one_step; made = made_moves; onward = onward; after = after_same; before = before_same; own = made_own }

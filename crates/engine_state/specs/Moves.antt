@@ -13,9 +13,10 @@ use Rattle.machine_model.specs.LeanerLaws.{IsDone, LeanerStates, TellTheSame}
 use Rattle.engine_state.specs.Fewest.{fewest_steps, IsOverAfter}
 
 module _ (what : Tests) (program : Program) (bound : ℕ) where
-  -- some steps from a state, at least one, make this trace
-  abbrev pub Makes : State → Trace → Type 0
-  Makes s t = (k : ℕ) × (steps what program bound (suc k) (Going s) ≡ t)
+  -- a step from a state and so many more make this trace
+  pub record Makes (s : State) (t : Trace) : Type 0 where
+    pub more : ℕ
+    pub trace : steps what program bound (suc more) (Going s) ≡ t
 
   -- a phase leads to what this trace tells, with its tests, and to its phase; fewer steps than end the old run end the new one
   pub record Moves (old : Phase) (t : Trace) : Type 0 where
