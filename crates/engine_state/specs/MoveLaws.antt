@@ -1,6 +1,6 @@
 -- Clauses that are tried and terms that are made equal, with any most general values in place of those of the semantics.
 -- The headline does not rest on this file.
-use Rattle.std.specs.Prelude.{◌≡◌, ◌≤◌, ◌+◌, ℕ, List, [], ◌∷◌, ◌++◌, length, replicate, None, Some, if◌then◌else◌}
+use Rattle.std.specs.Prelude.{◌≡◌, ◌≤◌, ◌<◌, ◌+◌, ℕ, Bool, List, [], ◌∷◌, ◌++◌, length, replicate, None, Some, if◌then◌else◌}
 use Rattle.term_core.specs.declared.terms.Term.{Term}
 use Rattle.term_core.specs.declared.equations.Equation.{Equation}
 use Rattle.term_core.specs.declared.equations.Binding.{Binding}
@@ -15,18 +15,19 @@ use Rattle.prog_data.specs.declared.programs.Clause.{Clause}
 use Rattle.prog_data.specs.declared.programs.Place.{Place}
 use Rattle.prog_data.specs.declared.programs.Program.{Program}
 use Rattle.prog_data.specs.declared.events.Event.{Event}
-use Rattle.prog_data.specs.Goals.{without_exit}
+use Rattle.prog_data.specs.Goals.{without_exit, pred_of}
 use Rattle.machine_model.specs.State.{Does, Exits, Frame, Call, Choice, Doing, State, Phase, Going, Trace, frame_instance, cut}
 use Rattle.machine_model.specs.Tests.{Tests}
 use Rattle.machine_model.specs.Step.{Equates, frame_of, entered, quietly}
 use Rattle.machine_model.specs.Leaner.{clause_at, IsLeaner}
-use Rattle.machine_model.specs.LeanerLaws.{AreBelow, IsCurrentBelow, before_goal, before_try, after_try, head_equations}
+use Rattle.machine_model.specs.LeanerLaws.{AreBelow, IsCurrentBelow, chosen, OthersCannotMatch, before_goal, before_try, after_try, call_above, after_call, head_equations}
 use Rattle.term_heap.specs.declared.cells.Cell.TheVariants.{Free}
 use Rattle.term_heap.specs.Changes.{Change, Grows, size_of, value_of, IsMade}
 use Rattle.unify_core.specs.Heads as heads
 use Rattle.engine_state.specs.Engines.{Task, Runs, Leaves, Pending, frame_with, call_with}
 use Rattle.engine_state.specs.Moves.{Moves}
-use Rattle.engine_state.specs.StepsMade.{doing, equation, effect_of}
+use Rattle.engine_state.specs.Tested.{Tested, HasTested, tested_trace}
+use Rattle.engine_state.specs.StepsMade.{doing, equation, effect_of, found_at_call, whose_pre_holds, looks_at}
 
 -- a cut to as many choices as there are leaves them, and one to the older ones takes the newer ones off
 pub record CutsStay : Type 0 where
@@ -79,8 +80,30 @@ module _ (what : Tests) (program : Program) (bound : ℕ) where
   pub record LeanersMove : Type 0 where
     pub after : (p : Phase) (events : List Event) (tests : ℕ) (s s' : State) → Moves what program bound p (record { events = events; tests = tests; phase = Going s }) → IsLeaner program s s' →
         Moves what program bound p (record { events = events; tests = tests; phase = Going s' })
+    -- so behind tests, whether or not they have ended the run
+    pub after_tests : (p : Phase) (r : Tested) (events : List Event) (tests : ℕ) (s s' : State) → Moves what program bound p (tested_trace r (record { events = events; tests = tests; phase = Going s })) → IsLeaner program s s' →
+        Moves what program bound p (tested_trace r (record { events = events; tests = tests; phase = Going s' }))
     pub before : (s s' : State) (t : Trace) → IsLeaner program s s' → Moves what program bound (Going s') t → Moves what program bound (Going s) t
     pub numbered : (n : ℕ) (s : State) → IsLeaner program s s → AreBelow n s.choices → IsCurrentBelow n s.current → IsLeaner program s (record s { fresh = n }) × IsLeaner program (record s { fresh = n }) (record s { fresh = n })
     -- an exit that tests nothing may be left out behind the first goal
     pub without_exit : (s s' : State) (g : Goal) (h : ℕ) (place : Place) (p : ℕ) (args : List Term) (rest : Frame) → s'.current ≡ Doing (frame_of (Does g h place ∷ Exits p args [] None ∷ rest.items) rest) → IsLeaner program s s' →
         IsLeaner program s (record s' { current = Doing (frame_of (Does g h place ∷ rest.items) rest) })
+
+  -- what comes after the tests of a call of which only some clauses are to be tried
+  abbrev pub after_chosen : (chooses : ℕ → Bool) → (made n : ℕ) → List Choice → (pred : ℕ) → List Term → Frame → Trace
+  after_chosen chooses made n cs p args rest =
+      let noted = whose_pre_holds program args (looks_at what program bound p).notes in
+      let marked = whose_pre_holds program args (looks_at what program bound p).marks in
+      record {
+        events = [];
+        tests = length (looks_at what program bound p).notes + length (looks_at what program bound p).marks;
+        phase = Going (after_call made n cs p marked (chosen chooses 0 (pred_of program p).clauses (call_above cs p args noted marked rest)));
+      }
+
+  -- clauses that cannot match may be left out at a call, whatever its tests gave
+  pub record CallsMove : Type 0 where
+    pub chosen_clauses : (made n p : ℕ) (cs : List Choice) (g : Goal) (args : List Term) (h : ℕ) (place : Place) (rest : Frame) (r : Tested) (chooses : ℕ → Bool) → g ≡ goal.Call p args → made < bound →
+        HasTested what.stops 1 (found_at_call program args) (looks_at what program bound p).calls r → IsLeaner program (before_goal made n cs g h place rest) (before_goal made n cs g h place rest) →
+        OthersCannotMatch program chooses 0 (length (pred_of program p).clauses)
+        (call_above cs p args (whose_pre_holds program args (looks_at what program bound p).notes) (whose_pre_holds program args (looks_at what program bound p).marks) rest) →
+        Moves what program bound (Going (before_goal made n cs g h place rest)) (tested_trace r (after_chosen chooses made n cs p args rest))

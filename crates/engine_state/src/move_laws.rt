@@ -8,7 +8,7 @@ ghost use Rattle.engine_state.specs.Within.{TasksWithin, VariablesWithin};
 ghost use Rattle.engine_state.specs.Tested.{TestsJoin};
 ghost use Rattle.engine_state.specs.Moves.{MovesCompose, FewestLeft};
 ghost use Rattle.engine_state.specs.StepsMade.{GoalsMake, BuiltinsMake, CallsMake, ExitsMake, FailuresMake};
-ghost use Rattle.engine_state.specs.MoveLaws.{CutsStay, ClausesEnter, SolvedHaveBindings, EquatedAlike, SolvedMove, LeanersMove};
+ghost use Rattle.engine_state.specs.MoveLaws.{CutsStay, ClausesEnter, SolvedHaveBindings, EquatedAlike, SolvedMove, LeanersMove, CallsMove};
 
 use machine_model::{leaner_law, leaner_states_law};
 use term_core::unification_law;
@@ -97,6 +97,14 @@ pub fn solved_law()
 /// What moves on to or from a leaner state.
 pub fn leaners_law()
     ensures { (what : Tests) (program : Program) (bound : ℕ) → IsProgram program → LeanersMove what program bound }
+{
+    leaner_law();
+    leaner_states_law();
+}
+
+/// Clauses that cannot match may be left out at a call.
+pub fn chosen_law()
+    ensures { (what : Tests) (program : Program) (bound : ℕ) → IsProgram program → CallsMove what program bound }
 {
     leaner_law();
     leaner_states_law();
