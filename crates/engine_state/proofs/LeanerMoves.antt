@@ -79,9 +79,9 @@ module _ (tells : LeanerTellsTheSame) (found : LeanerStatesAreFound) (what : Tes
         let clauses = (pred_of program p).clauses in
         let call = call_above cs p args noted marked rest in
         let fuller = after_call made n cs p marked (tries 0 clauses call) in
-        let leaner = after_call made n cs p marked (chosen chooses 0 clauses call) in
-        let are : IsLeaner program fuller leaner = (found program is).called made n p g args noted marked h place cs rest clauses chooses (ap out-Goal e ∙ outs-Call p args) own others in
+        let picked = after_call made n cs p marked (chosen chooses 0 clauses call) in
+        let are : IsLeaner program fuller picked = (found program is).called made n p g args noted marked h place cs rest clauses chooses (ap out-Goal e ∙ outs-Call p args) own others in
         let makes = (calls_make what program bound made n cs).tested g p args h place rest r e lt has in
-        after_ended (Going (before_goal made n cs g h place rest)) r.told r.tests r.ended [] (length (looks_at what program bound p).notes + length (looks_at what program bound p).marks) fuller leaner are
+        after_ended (Going (before_goal made n cs g h place rest)) r.told r.tests r.ended [] (length (looks_at what program bound p).notes + length (looks_at what program bound p).marks) fuller picked are
         (made_moves what program bound (before_goal made n cs g h place rest) _ makes);
   }
