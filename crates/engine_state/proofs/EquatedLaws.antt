@@ -1,6 +1,6 @@
 -- What a built-in equates may be made equal by any most general values.
 use Rattle.std.proofs.Common.{◌≡◌, ◌≤◌, ℕ, zero, suc, ◌+◌, Bool, true, false, not, List, [], ◌∷◌, map, refl, sym, ap, ◌∙◌, subst, arith}
-use Rattle.std.specs.Prelude.{slice_index_or, ℤ, int_lt, int_le, Ok, Err}
+use Rattle.std.specs.Prelude.{slice_index_or, ℤ, int_lt, int_le, Ok, Err, Option}
 use Rattle.term_core.specs.declared.fixed.TheConstants.{NIL}
 use Rattle.term_core.specs.declared.terms.Term.{Term, Var, Atom, Int}
 use Rattle.term_core.specs.declared.equations.Equation.{Equation}
@@ -167,7 +167,7 @@ older_older (newer a) b = newer (older_older a b)
 at_over : {ks js is : List Kind} {h h' : ℕ} → Older ks js → HeightsAgree js h h' is → HeightsAgree ks h h' is
 at_over o (at below e e') = at (older_older o below) e e'
 
-marks_over : {ks js : List Kind} {m m' : _} → Older ks js → MarksAgree js m m' → MarksAgree ks m m'
+marks_over : {ks js : List Kind} {m m' : Option ℕ} → Older ks js → MarksAgree js m m' → MarksAgree ks m m'
 marks_over o no_mark = no_mark
 marks_over o (a_mark is below e e') = a_mark is (older_older o below) e e'
 

@@ -28,7 +28,7 @@ one_idle : {there back : ℕ → Term} {ks : List Kind} {is : List Item} (p : �
 one_idle p args rest (exits terms no_mark items) = idle items
 one_idle p args rest (idle items) = idle (one_idle p args rest items)
 
-first_kept : {there back : ℕ → Term} {ks : List Kind} {is : List Item} (g : Goal) (h : _) (place : Place) (p : ℕ) (args : List Term) (rest : List Item) → ItemsAgree there back ks is (Does g h place ∷ Exits p args [] None ∷ rest) →
+first_kept : {there back : ℕ → Term} {ks : List Kind} {is : List Item} (g : Goal) (h : ℕ) (place : Place) (p : ℕ) (args : List Term) (rest : List Item) → ItemsAgree there back ks is (Does g h place ∷ Exits p args [] None ∷ rest) →
     ItemsAgree there back ks is (Does g h place ∷ rest)
 first_kept g h place p args rest (does js goals heights items) = does js goals heights (one_idle p args rest items)
 first_kept g h place p args rest (idle items) = idle (first_kept g h place p args rest items)
