@@ -11,8 +11,8 @@ pub record IsAdded (told : List ℕ) (tests : ℕ) (r : Tested) (told' : List �
   pub tests_are : tests' ≡ min (tests + r.tests) (2 ^ 64 - 1)
   pub ended_is : ended ≡ r.ended
 
--- these conditions were tested, and what that gave was added
-pub record HasAdded (stops : Bool) (counts : ℕ) (find : ℕ → Finding) (cs : List ℕ) (told : List ℕ) (tests : ℕ) (told' : List ℕ) (tests' : ℕ) (ended : Option Ending) : Type 0 where
+-- these conditions were tested, and what that gave was added to the conditions told; so many tests were made, and they ended so
+pub record HasAdded (stops : Bool) (counts : ℕ) (find : ℕ → Finding) (cs : List ℕ) (told told' : List ℕ) (tests : ℕ) (ended : Option Ending) : Type 0 where
   pub r : Tested
   pub has : HasTested stops counts find cs r
-  pub added : IsAdded told tests r told' tests' ended
+  pub added : IsAdded told 0 r told' tests ended
