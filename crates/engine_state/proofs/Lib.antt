@@ -22,3 +22,4 @@ mod EquatedLaws
 mod SolvedMoves
 mod FindingLaws
 mod LeanerMoves
+mod CellMoves

@@ -126,7 +126,7 @@ module _ (program : Program) (vars : ℕ) where
       let parts = and_parts (is_term_of program vars t) _ e in
       ap (λ x. x ∷ map (instance (below vars)) ts) (term_closed t parts.0) ∙ ap (λ xs. t ∷ xs) (terms_closed ts parts.1)
 
-  goal_closed : (g : Goal) → is_goal_of program vars g ≡ true → goal_instance (below vars) g ≡ g
+  pub goal_closed : (g : Goal) → is_goal_of program vars g ≡ true → goal_instance (below vars) g ≡ g
   goal_closed = ind_goals (λ g. is_goal_of program vars g ≡ true → goal_instance (below vars) g ≡ g)
       (λ e. at_true (below vars))
       (λ e. at_fail (below vars))

@@ -12,3 +12,4 @@ pub mod Moves
 pub mod StepsMade
 pub mod MoveLaws
 pub mod Findings
+pub mod CellMoves

@@ -9,6 +9,7 @@ ghost use Rattle.engine_state.specs.Tested.{TestsJoin};
 ghost use Rattle.engine_state.specs.Moves.{MovesCompose, FewestLeft};
 ghost use Rattle.engine_state.specs.StepsMade.{GoalsMake, BuiltinsMake, CallsMake, ExitsMake, FailuresMake};
 ghost use Rattle.engine_state.specs.MoveLaws.{CutsStay, ClausesEnter, SolvedHaveBindings, EquatedAlike, SolvedMove, LeanersMove, CallsMove};
+ghost use Rattle.engine_state.specs.CellMoves.{CellsMove};
 
 use machine_model::{leaner_law, leaner_states_law};
 use term_core::unification_law;
@@ -106,6 +107,15 @@ pub fn leaners_law()
 pub fn chosen_law()
     ensures { (what : Tests) (program : Program) (bound : ℕ) → IsProgram program → CallsMove what program bound }
 {
+    leaner_law();
+    leaner_states_law();
+}
+
+/// A state moves on by what was done with cells: a head that was matched, and places that were unified.
+pub fn cells_law()
+    ensures { (what : Tests) (program : Program) (bound made : ℕ) (cs : List Choice) → IsProgram program → CellsMove what program bound made cs }
+{
+    unification_law();
     leaner_law();
     leaner_states_law();
 }

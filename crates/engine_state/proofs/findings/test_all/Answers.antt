@@ -25,18 +25,21 @@ returns-in-Some g c = λ test h.
     (subst (λ e. IsAdded mid c.loop-condition.tests (found c.args.stops c.args.counts here (finding held)) new total e) c.in-Some.is c.in_ok-one.ensures))
 
 pub loop-condition-preserved : goal.loop-condition-preserved
-loop-condition-preserved g c = (c.loop-condition.invariant.0, λ test h.
-    let cs = c.args.conditions.now in
-    let i = c.loop-condition.condition-index in
-    let here = get_or cs i 0 in
-    let small = c.type_inv.conditions i in
-    let held = c.holds-is_held.result in
-    let mid = c.loop-condition.told.items in
-    let new = c.add_finding.new.told.items in
-    let total = c.in_ok-one.one.tests in
-    let is : finding (test here) ≡ finding held = ap finding (sym (h here held (omega (arith, small)) c.holds-is_held.ensures)) in
-    turn c.args.stops c.args.counts (λ d. finding (test d)) cs i held c.args.told.now.items mid c.loop-condition.tests new total None c.loop-condition-test.true is (c.loop-condition.invariant.1 test h)
-    (subst (λ e. IsAdded mid c.loop-condition.tests (found c.args.stops c.args.counts here (finding held)) new total e) c.in-None.is c.in_ok-one.ensures))
+loop-condition-preserved g c = (
+  c.loop-condition.invariant.0,
+  λ test h.
+      let cs = c.args.conditions.now in
+      let i = c.loop-condition.condition-index in
+      let here = get_or cs i 0 in
+      let small = c.type_inv.conditions i in
+      let held = c.holds-is_held.result in
+      let mid = c.loop-condition.told.items in
+      let new = c.add_finding.new.told.items in
+      let total = c.in_ok-one.one.tests in
+      let is : finding (test here) ≡ finding held = ap finding (sym (h here held (omega (arith, small)) c.holds-is_held.ensures)) in
+      turn c.args.stops c.args.counts (λ d. finding (test d)) cs i held c.args.told.now.items mid c.loop-condition.tests new total None c.loop-condition-test.true is (c.loop-condition.invariant.1 test h)
+      (subst (λ e. IsAdded mid c.loop-condition.tests (found c.args.stops c.args.counts here (finding held)) new total e) c.in-None.is c.in_ok-one.ensures),
+)
 
 pub returns : goal.returns
 returns g c = λ test h.
