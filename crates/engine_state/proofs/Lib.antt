@@ -19,3 +19,15 @@ mod NoteLaws
 mod PointLaws
 mod PointMoments
 mod QuietMoves
+mod WithinLaws
+mod TestedLaws
+mod Composing
+pub mod StepsLeft
+mod MadeSteps
+mod CutStays
+mod EnteredLaws
+mod EquatedLaws
+mod SolvedMoves
+mod FindingLaws
+mod LeanerMoves
+mod CellMoves

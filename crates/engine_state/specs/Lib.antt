@@ -10,3 +10,10 @@ pub mod Stacks
 pub mod Stages
 pub mod Turns
 pub mod Views
+pub mod Within
+pub mod Tested
+pub mod Moves
+pub mod StepsMade
+pub mod MoveLaws
+pub mod Findings
+pub mod CellMoves
