@@ -10,7 +10,7 @@ use Rattle.engine_state.specs.Views.{as_task, as_link, as_links, LeadDown}
 
 -- chains
 
-chain_older : (newer older : List Link) (k : ℕ) → k ≤ length older → chain (newer ++ older) k ≡ chain older k
+pub chain_older : (newer older : List Link) (k : ℕ) → k ≤ length older → chain (newer ++ older) k ≡ chain older k
 chain_older [] older k le = refl
 chain_older (l ∷ newer) older k le =
     ap (λ b. if b then l.task ∷ chain (newer ++ older) l.next else chain (newer ++ older) k) (ne_eqb k (suc (length (newer ++ older))) (λ e. omega (arith, e, le, length-append newer older)))

@@ -2,22 +2,23 @@
 -- The headline does not rest on this file.
 use Rattle.std.specs.Prelude.{◌≡◌, ◌≤◌, ◌<◌, ℕ, List, [], ◌∷◌, ◌++◌, length, Option, None, Some}
 use Rattle.prog_data.specs.declared.programs.Program.{Program}
-use Rattle.machine_model.specs.State.{Choice, State, Phase, Going}
+use Rattle.machine_model.specs.State.{Choice, Failed, State, Phase, Going}
 use Rattle.machine_model.specs.Tests.{Tests}
 use Rattle.machine_model.specs.Step.{quietly}
+use Rattle.machine_model.specs.Leaner.{IsLeaner}
 use Rattle.engine_state.specs.declared.engine.Engine as code
 use Rattle.engine_state.specs.declared.stages.Stage as code_stage
 use Rattle.engine_state.specs.declared.stages.Setting.{Setting}
 use Rattle.engine_state.specs.declared.tasks.Link as code_link
 use Rattle.engine_state.specs.declared.points.Alternative as code_alternative
 use Rattle.term_heap.specs.Changes.{size_of, value_of, undone}
-use Rattle.engine_state.specs.Engines.{Task, Cuts, alternative_choices}
+use Rattle.engine_state.specs.Engines.{Task, Cuts, alternative_choices, as_state}
 use Rattle.engine_state.specs.Stacks.{width}
 use Rattle.engine_state.specs.Views.{as_links, as_task, as_alternative}
 use Rattle.engine_state.specs.Notes.{IsAlternativeNoted}
 use Rattle.engine_state.specs.Moments.{IsWide, IsLinkPlaced, IsAlternativePlaced}
 use Rattle.engine_state.specs.Moves.{Moves}
-use Rattle.engine_state.specs.Stages.{choices_at, tasks_at, phase_of, IsKept, IsWhole}
+use Rattle.engine_state.specs.Stages.{as_engine, choices_at, tasks_at, phase_of, IsKept, IsWhole}
 
 -- an engine became another one, with the same heap and these choices; the tasks from the links up to one on stay
 pub record GoesTo (old : code.Engine) (rest : ℕ) (choices : List Choice) (new : code.Engine) : Type 0 where
@@ -54,6 +55,21 @@ pub record HasTaken (old : code.Engine) (a : code_alternative.Alternative) (new 
   pub placed : IsAlternativePlaced new.program.now (size_of new.heap.changes) (length new.links.items) a
   pub noted : IsAlternativeNoted (length new.notes.items) a
   pub wide : IsWide a
+
+-- the state before a choice that an alternative stands for is gone on with, where the others are those of an engine
+abbrev pub back_state : code.Engine → code_alternative.Alternative → State
+back_state e a = record {
+  calls = e.calls;
+  fresh = size_of e.heap.changes;
+  choices = alternative_choices (value_of e.heap.changes) (as_links e.notes.items e.links.items) e.query (as_alternative e.notes.items a) ++ choices_at e;
+  current = Failed;
+}
+
+-- failure went back to the newest choice, which an alternative stands for: the state then tells the same as the old one, and has its heights and its variables in order
+pub record HasGoneBack (old : code.Engine) (a : code_alternative.Alternative) (new : code.Engine) : Type 0 where
+  pub taken : HasTaken old a new
+  pub same : IsLeaner new.program.now (as_state (as_engine old) Failed) (back_state new a)
+  pub own : IsLeaner new.program.now (back_state new a) (back_state new a)
 
 -- a goal is to be run once, with these settings: a cut to this height comes before the tasks from a link on
 pub record IsOnce (old : code.Engine) (from : Setting) (now behind : ℕ) (to : Setting) (new : code.Engine) : Type 0 where

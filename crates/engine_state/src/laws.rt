@@ -4,6 +4,7 @@ ghost use Rattle.prog_data.specs.declared.programs.Program.{Program};
 ghost use Rattle.machine_model.specs.Tests.{Tests};
 ghost use Rattle.engine_state.specs.Fewest.{FewestFalls};
 ghost use Rattle.engine_state.specs.Moments.{MomentsStay, MomentsGive};
+ghost use Rattle.engine_state.specs.MomentsWithin.{MomentsWithin};
 ghost use Rattle.engine_state.specs.Notes.{NotesStay};
 ghost use Rattle.engine_state.specs.Laws.{ChoicesStay, FramesFollow, FreesAreNew, MarksAreFound, NewPoints, PointsCut, PointsExit, TermsAreBelow};
 
@@ -65,4 +66,9 @@ pub fn moments_law()
 /// Where links and choice points have their moments, trails, links and notes are in order, and choices rise.
 pub fn moments_give_law()
     ensures { (program : Program) → MomentsGive program }
+{}
+
+/// What links and choice points that have their moments name are cells that were there then.
+pub fn moments_within_law()
+    ensures { (program : Program) → MomentsWithin program }
 {}

@@ -1,6 +1,7 @@
 //! What the engine holds over cells, and the state that it is.
 #![tactic(auto)]
 
+mod backwards;
 mod control;
 mod engine;
 mod findings;
@@ -16,7 +17,7 @@ mod tasks;
 
 pub use laws::{
     below_law, bound_law, choices_law, cut_law, entered_law, exit_law, mark_law, moments_give_law,
-    moments_law, new_point_law, notes_law, steps_law,
+    moments_law, moments_within_law, new_point_law, notes_law, steps_law,
 };
 pub use move_laws::{
     bindings_law, builtins_law, calls_law, cells_law, chosen_law, clauses_law, cuts_law,
