@@ -1,10 +1,9 @@
 -- An engine whose newest choice is taken off, back at its moment.
-use Rattle.std.proofs.Common.{◌≡◌, ◌≤◌, ◌-◌, ℕ, List, [], ◌∷◌, ◌++◌, map, take, drop, reverse, length, refl, sym, ap, subst, ◌∙◌, arith}
+use Rattle.std.proofs.Common.{◌≡◌, ◌≤◌, ◌-◌, ℕ, List, [], ◌∷◌, ◌++◌, take, drop, reverse, length, refl, sym, ap, subst, ◌∙◌, arith}
 use Rattle.std.proofs.lemmas.List.{append-nil, length-reverse, length-take-le, reverse-reverse}
 use Rattle.std.specs.Prelude.{Vec}
 use Rattle.std.specs.declared.alloc.Global.{Global}
-use Rattle.machine_model.specs.State.{Choice}
-use Rattle.term_heap.specs.Changes.{Change, History, size_of, value_of, undone}
+use Rattle.term_heap.specs.Changes.{History, size_of, value_of, undone}
 use Rattle.engine_state.specs.declared.engine.Engine as code
 use Rattle.engine_state.specs.declared.tasks.Link as code_link
 use Rattle.engine_state.specs.declared.points.ChoicePoint as code_point
@@ -13,7 +12,7 @@ use Rattle.engine_state.specs.Stacks.{width, AreCounted, IsTaken}
 use Rattle.engine_state.specs.Views.{as_alternative, as_point, as_links, as_points}
 use Rattle.engine_state.specs.Notes.{IsTaskNoted, IsAlternativeNoted, AreLinksNoted, ArePointsNoted}
 use Rattle.engine_state.specs.Moments.{IsAlternativePlaced, Moments, HasMoments, GoesBack}
-use Rattle.engine_state.specs.Stages.{choices_at, IsKept}
+use Rattle.engine_state.specs.Stages.{IsKept}
 use Rattle.engine_state.specs.Turns.{HasTaken}
 use Rattle.engine_state.proofs.EachLaws.{each_reversed}
 use Rattle.engine_state.proofs.ChoiceLaws.{same_alternative, back_choices, pushed_choices}

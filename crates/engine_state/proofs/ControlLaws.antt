@@ -1,5 +1,5 @@
 -- Moves of an engine whose links, notes and choice points changed.
-use Rattle.std.proofs.Common.{◌≡◌, ◌≤◌, ◌+◌, ℕ, suc, List, [], ◌∷◌, ◌++◌, length, Some, refl, sym, ap, subst, ◌∙◌, arith}
+use Rattle.std.proofs.Common.{◌≡◌, ◌≤◌, ℕ, suc, List, ◌∷◌, length, Some, refl, sym, ap, subst, ◌∙◌, arith}
 use Rattle.prog_data.specs.declared.goals.Goal.{Goal}
 use Rattle.prog_data.specs.declared.goals.Goal as goal
 use Rattle.prog_data.specs.Programs.{IsProgram}
@@ -8,7 +8,7 @@ use Rattle.machine_model.specs.Tests.{Tests}
 use Rattle.machine_model.specs.Step.{step, quietly}
 use Rattle.machine_model.specs.Leaner.{IsLeaner}
 use Rattle.machine_model.specs.LeanerLaws.{LeanerStatesAreFound}
-use Rattle.term_heap.specs.Changes.{size_of, value_of}
+use Rattle.term_heap.specs.Changes.{size_of}
 use Rattle.engine_state.specs.declared.engine.Engine as code
 use Rattle.engine_state.specs.declared.stages.Setting.{Setting}
 use Rattle.engine_state.specs.declared.stages.Stage as code_stage

@@ -1,5 +1,5 @@
 -- What an engine goes over into where its links, notes and choice points change.
-use Rattle.std.proofs.Common.{◌≡◌, ◌≤◌, ◌<◌, ◌+◌, ◌-◌, ℕ, List, [], ◌∷◌, ◌++◌, map, reverse, length, refl, sym, ap, subst, ◌∙◌, arith}
+use Rattle.std.proofs.Common.{◌≡◌, ◌≤◌, ℕ, List, [], ◌∷◌, ◌++◌, map, reverse, length, refl, sym, ap, subst, ◌∙◌, arith}
 use Rattle.std.proofs.lemmas.List.{reverse-append, length-reverse}
 use Rattle.std.specs.Prelude.{Vec}
 use Rattle.std.specs.declared.alloc.Global.{Global}
@@ -8,15 +8,14 @@ use Rattle.term_heap.specs.Changes.{size_of, value_of}
 use Rattle.engine_state.specs.declared.engine.Engine as code
 use Rattle.engine_state.specs.declared.tasks.Task as code_task
 use Rattle.engine_state.specs.declared.tasks.Link as code_link
-use Rattle.engine_state.specs.declared.points.Alternative as code_alternative
 use Rattle.engine_state.specs.declared.points.ChoicePoint as code_point
-use Rattle.engine_state.specs.Engines.{Task, chain, alternative_choices, choices_of, frame_with, AreHeld}
+use Rattle.engine_state.specs.Engines.{Task, alternative_choices, choices_of, frame_with, AreHeld}
 use Rattle.engine_state.specs.Stacks.{height_of, AreCounted, cut_points, IsPushed}
 use Rattle.engine_state.specs.Views.{as_task, as_alternative, as_point, as_links, as_points, LeadDown}
 use Rattle.engine_state.specs.Notes.{IsAlternativeNoted}
 use Rattle.engine_state.specs.Moments.{links_held, IsWide, IsAlternativePlaced, ArePlaced, Moments, HasMoments}
 use Rattle.engine_state.specs.Kept.{IsLetGo}
-use Rattle.engine_state.specs.Stages.{choices_at, tasks_at, frame_now, doing, IsKept}
+use Rattle.engine_state.specs.Stages.{choices_at, frame_now, doing, IsKept}
 use Rattle.engine_state.specs.Turns.{GoesTo, HasPushed}
 use Rattle.engine_state.proofs.ChoiceLaws.{pushed_choices, now_choices}
 use Rattle.engine_state.proofs.CutLaws.{heights, cuts, counted}

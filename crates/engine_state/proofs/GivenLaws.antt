@@ -1,5 +1,5 @@
 -- What follows of links and choice points that have their moments.
-use Rattle.std.proofs.Common.{◌≡◌, ◌≤◌, ◌<◌, ◌+◌, ◌-◌, ℕ, List, [], ◌∷◌, ◌++◌, map, drop, reverse, length, sym, ap, subst, ◌∙◌, arith}
+use Rattle.std.proofs.Common.{◌≤◌, ◌<◌, ◌-◌, ℕ, List, [], ◌∷◌, ◌++◌, map, drop, reverse, length, sym, subst, arith}
 use Rattle.std.proofs.lemmas.List.{reverse-append}
 use Rattle.std.specs.List.{AllByRecursion}
 use Rattle.prog_data.specs.declared.programs.Program.{Program}
@@ -16,7 +16,7 @@ use Rattle.engine_state.specs.Views.{as_alternative, as_point, LeadDown}
 use Rattle.engine_state.specs.Newest.{AreRising}
 use Rattle.engine_state.specs.Notes.{IsTaskNoted, IsAlternativeNoted, AreLinksNoted, ArePointsNoted}
 use Rattle.engine_state.specs.Moments.{notes_held, IsWide, IsAlternativePlaced, ArePlaced, Moments, MomentsGive}
-use Rattle.engine_state.proofs.EachLaws.{each_weaker, each_of_two, each_reversed}
+use Rattle.engine_state.proofs.EachLaws.{each_of_two, each_reversed}
 use Rattle.engine_state.proofs.PointLaws.{length-places}
 use Rattle.engine_state.proofs.MomentLaws.{undone_length, left_length, moment_now}
 

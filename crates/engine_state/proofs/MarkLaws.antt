@@ -6,8 +6,8 @@ use Rattle.std.proofs.lemmas.List.{length-append, append_assoc, append-nil, reve
 use Rattle.std.specs.List.{AllByRecursion}
 use Rattle.engine_state.specs.declared.points.ChoicePoint as code
 use Rattle.engine_state.specs.Engines.{ChoicePoint}
-use Rattle.engine_state.specs.Stacks.{Marked, no_mark, mark_in, mark_at_height, exited_alternative, exit_points}
-use Rattle.engine_state.specs.Views.{as_alternative, as_point, as_points, as_marked}
+use Rattle.engine_state.specs.Stacks.{no_mark, mark_in, mark_at_height, exited_alternative, exit_points}
+use Rattle.engine_state.specs.Views.{as_alternative, as_point, as_points}
 use Rattle.engine_state.specs.Newest.{AreRising, AreElsewhere, IsFound}
 use Rattle.engine_state.specs.Notes.{IsAlternativeNoted, ArePointsNoted}
 use Rattle.engine_state.proofs.EachLaws.{each_weaker, each_at, one_more_each}

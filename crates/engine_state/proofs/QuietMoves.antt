@@ -1,7 +1,7 @@
 -- Moves that are exact steps.
-use Rattle.std.proofs.Common.{◌≡◌, ◌≤◌, ◌<◌, ◌+◌, ℕ, zero, suc, List, [], ◌∷◌, map, length, Some, Option, refl, sym, ap, subst, ◌∙◌, arith}
+use Rattle.std.proofs.Common.{◌≡◌, ◌<◌, ℕ, zero, suc, List, [], ◌∷◌, length, Some, sym, ap, subst, ◌∙◌, arith}
 use Rattle.std.proofs.lemmas.Bool.{and_parts}
-use Rattle.std.specs.Prelude.{Bool, true}
+use Rattle.std.specs.Prelude.{Bool}
 use Rattle.prog_data.specs.declared.goals.Goal.{Goal, out-Goal}
 use Rattle.prog_data.specs.declared.goals.Goal as goal
 use Rattle.prog_data.specs.declared.goals.Goal.TheVariants.{outs-True, outs-Fail, outs-Cut, outs-Conj, outs-Disj, outs-IfElse, outs-Not}
@@ -15,7 +15,6 @@ use Rattle.prog_data.proofs.GoalFolds.{fold-Conj, fold-Disj, fold-IfElse, fold-N
 use Rattle.machine_model.specs.State.{Does, CutTo, Resume, Doing, Failed, State, Phase, Going, Over, cut}
 use Rattle.machine_model.specs.Tests.{Tests, every_condition}
 use Rattle.machine_model.specs.Step.{step, goal_step, frame_of, quietly}
-use Rattle.machine_model.specs.Run.{Reaches}
 use Rattle.machine_model.specs.Continues.{at_phase, left_after, Leads}
 use Rattle.machine_model.specs.Leaner.{IsLeaner}
 use Rattle.machine_model.specs.LeanerLaws.{IsDone, LeanerStatesAreFound}

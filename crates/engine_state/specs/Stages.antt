@@ -1,11 +1,11 @@
 -- Where a run is, by what the engine holds and what is in hand, and what it keeps.
 -- The headline does not rest on this file.
-use Rattle.std.specs.Prelude.{◌≡◌, ◌≤◌, ◌+◌, ℕ, List, [], ◌∷◌, map, length, Option, None, Some, ⊤}
+use Rattle.std.specs.Prelude.{◌≤◌, ℕ, List, ◌∷◌, map, length, Option, None, Some, ⊤}
 use Rattle.prog_data.specs.declared.goals.Goal.{Goal}
 use Rattle.prog_data.specs.declared.goals.Goal as goal
 use Rattle.prog_data.specs.declared.programs.Place.{Place}
 use Rattle.prog_data.specs.Programs.{IsProgram}
-use Rattle.machine_model.specs.State.{Item, Does, Frame, Choice, Current, Doing, Failed, State, Phase, Going, Over}
+use Rattle.machine_model.specs.State.{Does, Frame, Choice, Doing, Failed, State, Phase, Going, Over}
 use Rattle.machine_model.specs.Leaner.{IsLeaner}
 use Rattle.term_heap.specs.Changes.{size_of, value_of, places}
 use Rattle.engine_state.specs.declared.tasks.Row.{Row}

@@ -1,6 +1,6 @@
 -- What functions of the engine do to it.
 -- The headline does not rest on this file.
-use Rattle.std.specs.Prelude.{◌≡◌, ◌≤◌, ◌<◌, ℕ, List, [], ◌∷◌, ◌++◌, length, Option, None, Some}
+use Rattle.std.specs.Prelude.{◌≡◌, ◌≤◌, ◌<◌, ℕ, List, ◌∷◌, ◌++◌, length, Option, None, Some}
 use Rattle.prog_data.specs.declared.programs.Program.{Program}
 use Rattle.machine_model.specs.State.{Choice, Failed, State, Phase, Going}
 use Rattle.machine_model.specs.Tests.{Tests}

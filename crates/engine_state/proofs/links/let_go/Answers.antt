@@ -1,4 +1,4 @@
-use Rattle.std.proofs.Common.{◌≡◌, ◌∙◌, ap, subst, max, take, reverse, arith}
+use Rattle.std.proofs.Common.{◌≡◌, subst, max, reverse, arith}
 use Rattle.engine_state.specs.Moments.{links_held, notes_held, notes_used}
 use Rattle.engine_state.proofs.LetGoLaws.{lets_go}
 use Rattle.engine_state.proofs.links.let_go.Goals as goal

@@ -1,4 +1,4 @@
-use Rattle.std.proofs.Common.{◌≡◌, ◌++◌, ◌∷◌, [], length, sym, subst, ◌∙◌, arith}
+use Rattle.std.proofs.Common.{◌≡◌, subst, arith}
 use Rattle.engine_state.specs.Stacks.{height_of}
 use Rattle.engine_state.specs.Views.{as_points}
 use Rattle.engine_state.proofs.EngineLaws.{goes_pointed}

@@ -1,7 +1,5 @@
 use Rattle.std.proofs.Common.{refl}
 use Rattle.term_heap.specs.Changes.{size_of}
-use Rattle.engine_state.specs.Engines.{Runs}
-use Rattle.machine_model.specs.State.{Resume}
 use Rattle.engine_state.specs.Stages.{choices_at}
 use Rattle.engine_state.proofs.QuietMoves.{placed_if}
 use Rattle.engine_state.proofs.ControlLaws.{placed_after, with_other, if_moved}

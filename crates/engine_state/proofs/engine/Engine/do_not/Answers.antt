@@ -1,4 +1,4 @@
-use Rattle.std.proofs.Common.{◌≤◌, length, refl, arith}
+use Rattle.std.proofs.Common.{refl}
 use Rattle.engine_state.proofs.ControlLaws.{not_moved}
 use Rattle.engine_state.proofs.engine.Engine.do_not.Goals as goal
 

@@ -1,4 +1,4 @@
-use Rattle.std.proofs.Common.{◌≡◌, ◌≤◌, length, reverse, sym, subst, ◌∙◌, arith}
+use Rattle.std.proofs.Common.{◌≡◌, reverse, subst, ◌∙◌, arith}
 use Rattle.engine_state.specs.Moments.{links_held}
 use Rattle.engine_state.specs.Stacks.{IsPushed}
 use Rattle.engine_state.specs.Views.{as_task, as_links}
