@@ -23,3 +23,4 @@ mod SolvedMoves
 mod FindingLaws
 mod LeanerMoves
 mod CellMoves
+mod PointMoves

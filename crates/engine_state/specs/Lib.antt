@@ -13,3 +13,4 @@ pub mod StepsMade
 pub mod MoveLaws
 pub mod Findings
 pub mod CellMoves
+pub mod PointMoves
