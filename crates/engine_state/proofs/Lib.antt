@@ -27,6 +27,7 @@ mod MomentLaws
 mod NoteLaws
 mod PointLaws
 mod PointMoments
+mod PointMoves
 mod QuietMoves
 mod SolvedMoves
 pub mod StepsLeft

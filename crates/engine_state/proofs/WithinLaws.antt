@@ -178,7 +178,7 @@ module _ (changes : List Change) (made : IsMade changes) (n : ℕ) (le : size_of
   tries_below call [] is = tt
   tries_below call (k ∷ left) is = (is, tries_below call left is)
 
-  alternative_below : (links : List Link) (query : ℕ) (a : Alternative) → query < size_of changes → IsAlternativeWithin (size_of changes) links a → AreBelow n (alternative_choices (value_of changes) links query a)
+  pub alternative_below : (links : List Link) (query : ℕ) (a : Alternative) → query < size_of changes → IsAlternativeWithin (size_of changes) links a → AreBelow n (alternative_choices (value_of changes) links query a)
   alternative_below links query (Resumes rest) lt is = (frame_below (chain links rest) query is lt, tt)
   alternative_below links query (Retries left c) lt is =
       tries_below (call_with (value_of changes) (chain links c.rest) query c) left (args_below c.exit.first c.exit.count is.0, frame_below (chain links c.rest) query is.1 lt)
@@ -204,7 +204,7 @@ undone_size n (c ∷ older) = by_test (nat_le (suc (length older)) n) (undone_si
   by_test true further grown = omega arith
   by_test false further grown = omega (arith, further, grown)
 
-both_below : (n : ℕ) (xs ys : List Choice) → AreBelow n xs → AreBelow n ys → AreBelow n (xs ++ ys)
+pub both_below : (n : ℕ) (xs ys : List Choice) → AreBelow n xs → AreBelow n ys → AreBelow n (xs ++ ys)
 both_below n [] ys are others = others
 both_below n (Resume f ∷ xs) ys are others = (are.0, both_below n xs ys are.1 others)
 both_below n (Try k call ∷ xs) ys are others = (are.0, both_below n xs ys are.1 others)

@@ -10,6 +10,7 @@ pub mod MoveLaws
 pub mod Moves
 pub mod Newest
 pub mod Notes
+pub mod PointMoves
 pub mod Stacks
 pub mod Stages
 pub mod StepsMade

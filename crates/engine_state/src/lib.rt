@@ -20,7 +20,7 @@ pub use laws::{
     moments_law, moments_within_law, new_point_law, notes_law, steps_law,
 };
 pub use move_laws::{
-    bindings_law, builtins_law, calls_law, cells_law, chosen_law, clauses_law, cuts_law,
-    equated_law, exits_law, failures_law, goals_law, leaners_law, moves_law, solved_law,
-    steps_left_law, tasks_law, tests_law, variables_law,
+    back_law, bindings_law, builtins_law, calls_law, cells_law, chosen_law, clauses_law, cuts_law,
+    equated_law, exits_law, failures_law, goals_law, leaners_law, moves_law, pushed_law,
+    solved_law, steps_left_law, tasks_law, tests_law, variables_law,
 };

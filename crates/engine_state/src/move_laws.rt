@@ -10,6 +10,7 @@ ghost use Rattle.engine_state.specs.Moves.{MovesCompose, FewestLeft};
 ghost use Rattle.engine_state.specs.StepsMade.{GoalsMake, BuiltinsMake, CallsMake, ExitsMake, FailuresMake};
 ghost use Rattle.engine_state.specs.MoveLaws.{CutsStay, ClausesEnter, SolvedHaveBindings, EquatedAlike, SolvedMove, LeanersMove, CallsMove};
 ghost use Rattle.engine_state.specs.CellMoves.{CellsMove};
+ghost use Rattle.engine_state.specs.PointMoves.{PointsPushed, GoesBack};
 
 use machine_model::{leaner_law, leaner_states_law};
 use term_core::unification_law;
@@ -117,5 +118,17 @@ pub fn cells_law()
 {
     unification_law();
     leaner_law();
+    leaner_states_law();
+}
+
+/// What new choice points stand for: a call's mark and its clauses among them.
+pub fn pushed_law()
+    ensures { PointsPushed }
+{}
+
+/// Failure goes back to the newest choice, at its moment, in a leaner state.
+pub fn back_law()
+    ensures { (program : Program) → IsProgram program → GoesBack program }
+{
     leaner_states_law();
 }
