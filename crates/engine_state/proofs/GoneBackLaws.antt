@@ -1,22 +1,29 @@
 -- Failure that went back to the newest choice.
-use Rattle.std.proofs.Common.{◌≡◌, ◌<◌, ℕ, List, ◌∷◌, ◌++◌, map, reverse, length, refl, sym, ap, subst, ◌∙◌, arith}
+use Rattle.std.proofs.Common.{◌≡◌, ◌<◌, ℕ, List, [], ◌∷◌, ◌++◌, map, reverse, length, refl, sym, ap, subst, ◌∙◌, arith}
 use Rattle.std.specs.Prelude.{⊤}
 use Rattle.prog_data.specs.declared.programs.Program.{Program}
-use Rattle.machine_model.specs.State.{Choice, Failed, State}
+use Rattle.machine_model.specs.State.{Choice, Failed, State, Going, Over}
+use Rattle.machine_model.specs.Tests.{every_condition}
+use Rattle.machine_model.specs.Step.{failure_step, quietly}
 use Rattle.machine_model.specs.Leaner.{IsLeaner}
-use Rattle.machine_model.specs.LeanerLaws.{AreBelow, LeanerStatesAreFound}
+use Rattle.machine_model.specs.LeanerLaws.{AreBelow, LeanerStatesAreFound, LeanerTellsTheSame}
 use Rattle.term_heap.specs.Changes.{Change, size_of, value_of, undone, IsMade}
 use Rattle.term_heap.proofs.HistoryLaws.{undone_here}
 use Rattle.engine_state.specs.declared.engine.Engine as code
 use Rattle.engine_state.specs.declared.points.Alternative as code_alternative
+use Rattle.engine_state.specs.declared.points.Alternative.TheVariants as alternative
+use Rattle.engine_state.specs.declared.stages.Stage.TheVariants as stage
+use Rattle.prog_data.specs.declared.events.Ending.TheVariants as ending
 use Rattle.engine_state.specs.Engines.{Link, Alternative, ChoicePoint, alternative_choices, choices_of, as_state}
 use Rattle.engine_state.specs.Views.{as_alternative, as_links, as_points}
 use Rattle.engine_state.specs.Moments.{IsAlternativePlaced, IsMoment}
 use Rattle.engine_state.specs.Within.{AreLinksWithin, IsAlternativeWithin, IsPointWithin, ArePointsWithin}
-use Rattle.engine_state.specs.Stages.{as_engine, choices_at, IsKept, IsAt}
-use Rattle.engine_state.specs.Turns.{HasTaken, back_state, HasGoneBack}
+use Rattle.engine_state.specs.Stages.{as_engine, choices_at, tasks_at, doing, IsKept, IsAt}
+use Rattle.engine_state.specs.Turns.{HasMoved, HasTaken, back_state, HasGoneBack}
 use Rattle.engine_state.proofs.ChoiceLaws.{now_choices}
+use Rattle.engine_state.proofs.Composing.{moves_compose}
 use Rattle.engine_state.proofs.MomentLaws.{moment_now}
+use Rattle.engine_state.proofs.QuietMoves.{quiet_move, own_after}
 use Rattle.engine_state.proofs.WithinLaws.{variables_within}
 use Rattle.engine_state.proofs.WithinMoments.{links_within, alternative_within, moments_within}
 
@@ -70,4 +77,30 @@ gone_back old new a found at taken made =
       taken = taken;
       same = subst (λ p. IsLeaner p failed (back_state new a)) (sym taken.program) same;
       own = subst (λ p. IsLeaner p (back_state new a) (back_state new a)) (sym taken.program) (states.own failed (back_state new a) same);
+    }
+
+-- where no choice is left the run is over
+pub none_moved : (old new : code.Engine) → new.program.now ≡ old.program.now → choices_at old ≡ [] → HasMoved old (as_state (as_engine old) Failed) new (stage.Over ending.NoMore)
+none_moved old new same none = record {
+  program = same;
+  moves = λ what bound. quiet_move what old.program.now bound (as_state (as_engine old) Failed) (Over ending.NoMore) (ap (failure_step what old.program.now bound (as_state (as_engine old) Failed)) none);
+  whole = tt;
+}
+
+-- where the newest choice is a link, its tasks are to be done
+pub resumed_moved : (old new : code.Engine) (rest : ℕ) → LeanerStatesAreFound → LeanerTellsTheSame → IsAt old (as_state (as_engine old) Failed) ⊤ → HasGoneBack old (alternative.Resumes rest) new → HasMoved old (as_state (as_engine old) Failed) new (stage.Doing rest)
+resumed_moved old new rest found tells at back =
+    let program : Program = old.program.now in
+    let failed : State = as_state (as_engine old) Failed in
+    let from : State = back_state new (alternative.Resumes rest) in
+    let after : State = doing new (tasks_at new rest) in
+    let same : IsLeaner program failed from = subst (λ p. IsLeaner p failed from) back.taken.program back.same in
+    record {
+      program = back.taken.program;
+      moves = λ what bound. (moves_compose what program bound).before failed from (quietly (Going after)) (tells program at.kept.in_range failed from same) (quiet_move what program bound from (Going after) refl);
+      whole = record {
+        kept = back.taken.kept;
+        own = own_after (every_condition new.program.now) new.program.now 0 from after found back.taken.kept.in_range refl tt back.own;
+        in_hand = back.taken.placed;
+      };
     }

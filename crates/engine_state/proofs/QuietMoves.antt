@@ -44,7 +44,7 @@ module _ (what : Tests) (program : Program) (bound : ℕ) where
   one_fewer s (suc j) is = (j, omega arith, is)
 
   -- a step without event and test is a move
-  quiet_move : (s : State) (p : Phase) → step what program bound s ≡ quietly p → Moves what program bound (Going s) (quietly p)
+  pub quiet_move : (s : State) (p : Phase) → step what program bound s ≡ quietly p → Moves what program bound (Going s) (quietly p)
   quiet_move s p e = record {
     leads = subst (λ t. Leads what program bound (at_phase (Going s)) [] t.tests (left_after t)) e (step_leads what program bound s);
     fewer = λ k over.
@@ -54,7 +54,7 @@ module _ (what : Tests) (program : Program) (bound : ℕ) where
   }
 
   -- what is its own leaner state leads to such a state
-  own_after : (s s' : State) → LeanerStatesAreFound → IsProgram program → step what program bound s ≡ quietly (Going s') → IsDone s'.current → IsLeaner program s s → IsLeaner program s' s'
+  pub own_after : (s s' : State) → LeanerStatesAreFound → IsProgram program → step what program bound s ≡ quietly (Going s') → IsDone s'.current → IsLeaner program s s → IsLeaner program s' s'
   own_after s s' found ok e done own = (found program ok).reached what bound s s' own (record { count = 1; phase = ap (λ t. t.phase) e }) done
 
 -- the engine moved by one step to a state

@@ -12,7 +12,8 @@ impl<'p> Engine<'p> {
     /// Goes back to the newest choice after failure; its alternative, if there is one.
     pub(crate) fn go_back(&mut self) -> Option<Alternative>
         requires { IsWhole self.old Failed }
-        ensures { MatchOption result (choices_at self.old ≡ []) (λ a. HasGoneBack self.old a self.new) }
+        ensures back { MatchOption result (choices_at self.old ≡ []) (λ a. HasGoneBack self.old a self.new) }
+        ensures program { self.new.program.now ≡ self.old.program.now }
     {
         leaner_states_law();
         match self.take_choice() {

@@ -141,7 +141,8 @@ impl<'p> Engine<'p> {
     /// Takes the newest choice off and goes back to its moment; its alternative, if there is one.
     pub(crate) fn take_choice(&mut self) -> Option<Alternative>
         requires { IsKept self.old }
-        ensures { MatchOption result (choices_at self.old ≡ []) (λ a. HasTaken self.old a self.new) }
+        ensures taken { MatchOption result (choices_at self.old ≡ []) (λ a. HasTaken self.old a self.new) }
+        ensures program { self.new.program.now ≡ self.old.program.now }
     {
         match take_newest(&mut self.points) {
             None => None,
