@@ -11,7 +11,7 @@ use Rattle.engine_state.specs.Engines.{Link, ChoicePoint, chain, rest_of, altern
 use Rattle.engine_state.specs.Stacks.{width, AreCounted, IsTaken}
 use Rattle.engine_state.specs.Views.{as_alternative, as_point, as_links, as_points}
 use Rattle.engine_state.specs.Notes.{IsTaskNoted, IsAlternativeNoted, AreLinksNoted, ArePointsNoted}
-use Rattle.engine_state.specs.Moments.{IsAlternativePlaced, Moments, HasMoments, GoesBack}
+use Rattle.engine_state.specs.Moments.{IsAlternativePlaced, Moments, HasMoments, HasItsMoment}
 use Rattle.engine_state.specs.Stages.{IsKept}
 use Rattle.engine_state.specs.Turns.{HasTaken}
 use Rattle.engine_state.proofs.EachLaws.{each_reversed}
@@ -23,7 +23,7 @@ use Rattle.engine_state.proofs.GivenLaws.{in_order, held, links_noted, points_no
 
 module _ (old : code.Engine) (kept : IsKept old) (p : code_point.ChoicePoint) (heap : History) (links : Vec code_link.Link Global) (notes : Vec ℕ Global) (points : Vec code_point.ChoicePoint Global)
     (taken : IsTaken (as_points old.notes.items old.points.items) (as_point old.notes.items p) (as_points old.notes.items points.items))
-    (back : GoesBack old.program.now old.query old.heap.changes old.notes.items old.links.items p points.items)
+    (back : HasItsMoment old.program.now old.query old.heap.changes old.notes.items old.links.items p points.items)
     (heap_is : heap.changes ≡ undone p.trail old.heap.changes) (links_are : links.items ≡ take p.links old.links.items) (notes_are : notes.items ≡ take p.notes old.notes.items) where
   abbrev new : code.Engine
   new = record old { heap = heap; links = links; notes = notes; points = points }

@@ -1,21 +1,23 @@
 -- Failure that went back to the newest choice.
-use Rattle.std.proofs.Common.{◌≡◌, ◌<◌, ℕ, List, [], ◌∷◌, ◌++◌, map, reverse, length, refl, sym, ap, subst, ◌∙◌, arith}
+use Rattle.std.proofs.Common.{◌≡◌, ◌<◌, ◌≤◌, ◌-◌, ℕ, zero, suc, List, [], ◌∷◌, ◌++◌, map, reverse, length, refl, sym, ap, subst, ◌∙◌, arith}
 use Rattle.std.specs.Prelude.{⊤}
 use Rattle.prog_data.specs.declared.programs.Program.{Program}
-use Rattle.machine_model.specs.State.{Choice, Failed, State, Going, Over}
+use Rattle.machine_model.specs.State.{Call, Choice, Try, Failed, State, Going, Over}
 use Rattle.machine_model.specs.Tests.{every_condition}
 use Rattle.machine_model.specs.Step.{failure_step, quietly}
 use Rattle.machine_model.specs.Leaner.{IsLeaner}
-use Rattle.machine_model.specs.LeanerLaws.{AreBelow, LeanerStatesAreFound, LeanerTellsTheSame}
-use Rattle.term_heap.specs.Changes.{Change, size_of, value_of, undone, IsMade}
+use Rattle.machine_model.specs.LeanerLaws.{AreBelow, before_try, LeanerStatesAreFound, LeanerTellsTheSame}
+use Rattle.term_heap.specs.Changes.{Change, size_of, value_of, places, undone, IsMade}
 use Rattle.term_heap.proofs.HistoryLaws.{undone_here}
 use Rattle.engine_state.specs.declared.engine.Engine as code
+use Rattle.engine_state.specs.declared.points.Pending as code_pending
 use Rattle.engine_state.specs.declared.points.Alternative as code_alternative
 use Rattle.engine_state.specs.declared.points.Alternative.TheVariants as alternative
 use Rattle.engine_state.specs.declared.stages.Stage.TheVariants as stage
 use Rattle.prog_data.specs.declared.events.Ending.TheVariants as ending
-use Rattle.engine_state.specs.Engines.{Link, Alternative, ChoicePoint, alternative_choices, choices_of, as_state}
-use Rattle.engine_state.specs.Views.{as_alternative, as_links, as_points}
+use Rattle.engine_state.specs.Engines.{Link, Alternative, ChoicePoint, call_with, alternative_choices, choices_of, as_state}
+use Rattle.engine_state.specs.Views.{as_alternative, as_pending, as_links, as_points}
+use Rattle.engine_state.specs.Stacks.{width}
 use Rattle.engine_state.specs.Moments.{IsAlternativePlaced, IsMoment}
 use Rattle.engine_state.specs.Within.{AreLinksWithin, IsAlternativeWithin, IsPointWithin, ArePointsWithin}
 use Rattle.engine_state.specs.Stages.{as_engine, choices_at, tasks_at, doing, IsKept, IsAt}
@@ -23,6 +25,7 @@ use Rattle.engine_state.specs.Turns.{HasMoved, HasTaken, back_state, HasGoneBack
 use Rattle.engine_state.proofs.ChoiceLaws.{now_choices}
 use Rattle.engine_state.proofs.Composing.{moves_compose}
 use Rattle.engine_state.proofs.MomentLaws.{moment_now}
+use Rattle.engine_state.proofs.PointLaws.{length-places}
 use Rattle.engine_state.proofs.QuietMoves.{quiet_move, own_after}
 use Rattle.engine_state.proofs.WithinLaws.{variables_within}
 use Rattle.engine_state.proofs.WithinMoments.{links_within, alternative_within, moments_within}
@@ -78,6 +81,14 @@ gone_back old new a found at taken made =
       same = subst (λ p. IsLeaner p failed (back_state new a)) (sym taken.program) same;
       own = subst (λ p. IsLeaner p (back_state new a) (back_state new a)) (sym taken.program) (states.own failed (back_state new a) same);
     }
+
+-- where the newest choice is a clause of a call, it is to be tried
+pub before_clause : (e : code.Engine) (next end : ℕ) (c : code_pending.Pending) → next < end → width (as_alternative e.notes.items (alternative.Retries next end c)) ≤ 1 → back_state e (alternative.Retries next end c)
+    ≡ before_try e.calls (size_of e.heap.changes) next (call_with (value_of e.heap.changes) (tasks_at e c.rest) e.query (as_pending e.notes.items c)) (choices_at e)
+before_clause e next end c less single =
+    let one : end - next ≡ suc zero = omega (arith, less, single, length-places next (end - next)) in
+    let call : Call = call_with (value_of e.heap.changes) (tasks_at e c.rest) e.query (as_pending e.notes.items c) in
+    ap (λ n. record { calls = e.calls; fresh = size_of e.heap.changes; choices = map (λ k. Try k call) (places next n) ++ choices_at e; current = Failed }) one
 
 -- where no choice is left the run is over
 pub none_moved : (old new : code.Engine) → new.program.now ≡ old.program.now → choices_at old ≡ [] → HasMoved old (as_state (as_engine old) Failed) new (stage.Over ending.NoMore)

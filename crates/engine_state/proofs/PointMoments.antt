@@ -10,7 +10,7 @@ use Rattle.engine_state.specs.declared.points.Alternative as code_alternative
 use Rattle.engine_state.specs.declared.points.Alternative.TheVariants as alternative
 use Rattle.engine_state.specs.declared.points.ChoicePoint as code_point
 use Rattle.engine_state.specs.Newest.{IsNewest, IsFound}
-use Rattle.engine_state.specs.Moments.{IsAlternativePlaced, Moments, HasMoments, MayBecome, GoesBack}
+use Rattle.engine_state.specs.Moments.{IsAlternativePlaced, Moments, HasMoments, MayBecome, HasItsMoment}
 use Rattle.engine_state.specs.Notes.{IsAlternativeNoted}
 use Rattle.engine_state.proofs.MarkLaws.{found_is}
 use Rattle.engine_state.proofs.PointLaws.{size_is, older_are}
@@ -72,9 +72,9 @@ module _ (program : Program) where
         popped is are =
             subst Have (sym (older_are notes points p at_end new is)) (off program query changes (length notes) (reverse links) p older (with_newest are))
 
-        pub popped_back : new ≡ take (length points - 1) points → Have points → GoesBack program query changes notes links p new
+        pub popped_back : new ≡ take (length points - 1) points → Have points → HasItsMoment program query changes notes links p new
         popped_back is are =
-            subst (GoesBack program query changes notes links p) (sym (older_are notes points p at_end new is))
+            subst (HasItsMoment program query changes notes links p) (sym (older_are notes points p at_end new is))
             (let were = with_newest are in
             let size : length (reverse links) ≡ length links = length-reverse links in
             record { before = were.1; moments = subst (λ n. Moments program query (undone p.trail changes) p.notes (drop (n - p.links) (reverse links)) older) size were.2 })
@@ -91,7 +91,7 @@ module _ (program : Program) where
         module _ (next end : ℕ) (c : code_pending.Pending) (is_p : p.alternative ≡ alternative.Retries next end c) (q r : code_point.ChoicePoint) (n : ℕ) (size : n + 1 ≡ length points) (is_new : new ≡ slice_set points n q)
             (is_q : q ≡ record p { alternative = alternative.Retries (next + 1) end c }) (is_r : r ≡ record p { alternative = alternative.Retries next (next + 1) c }) (more : 1 < end - next) where
           -- one clause was taken off
-          pub clause_back : Have points → GoesBack program query changes notes links r new
+          pub clause_back : Have points → HasItsMoment program query changes notes links r new
           clause_back are =
               let were = with_newest are in
               let trail : p.trail ≤ length changes = were.1.trail in
@@ -108,7 +108,7 @@ module _ (program : Program) where
               (subst (λ k. IsAlternativePlaced program (size_of moment) k rest.alternative) (sym links_are) placed) noted (omega (arith, more)) were.2 in
               let is_reverse : reverse new ≡ rest ∷ older = ap reverse (replaced q n size is_new) ∙ reverse-append at_end.older (q ∷ []) ∙ ap (λ x. x ∷ older) is_q in
               let lengths : length (reverse links) ≡ length links = length-reverse links in
-              subst (λ x. GoesBack program query changes notes links x new) (sym is_r) (record {
+              subst (λ x. HasItsMoment program query changes notes links x new) (sym is_r) (record {
                 before = record {
                   trail = trail;
                   fewer_links = fewer;

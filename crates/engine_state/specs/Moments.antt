@@ -114,7 +114,7 @@ module _ (program : Program) where
     pub wide : IsWide old → IsWide new
 
   -- a choice was taken off: it was made before, and at its moment the others have their moments
-  pub record GoesBack (query : ℕ) (changes : List Change) (notes : List ℕ) (links : List code_link.Link) (p : code_point.ChoicePoint) (left : List code_point.ChoicePoint) : Type 0 where
+  pub record HasItsMoment (query : ℕ) (changes : List Change) (notes : List ℕ) (links : List code_link.Link) (p : code_point.ChoicePoint) (left : List code_point.ChoicePoint) : Type 0 where
     pub before : IsMadeBefore changes (length notes) (reverse links) p
     pub moments : Moments query (undone p.trail changes) p.notes (drop (length links - p.links) (reverse links)) (reverse left)
 

@@ -6,7 +6,7 @@ ghost use Rattle.engine_state.specs.declared.tasks.Link.{Link};
 ghost use Rattle.engine_state.specs.Stacks.{width, height_of, shortened, cut_points, IsTaken};
 ghost use Rattle.engine_state.specs.Views.{as_alternative, as_point, as_points};
 ghost use Rattle.engine_state.specs.Newest.{IsNewest};
-ghost use Rattle.engine_state.specs.Moments.{links_held, notes_held, HasMoments, MayBecome, GoesBack};
+ghost use Rattle.engine_state.specs.Moments.{links_held, notes_held, HasMoments, MayBecome, HasItsMoment};
 
 use crate::tasks::{Exit, Row};
 use term_core::NoMemory;
@@ -145,7 +145,7 @@ pub(crate) fn cut_points(points: &mut Vec<ChoicePoint>, height: u64)
 /// Takes the newest choice off, as a choice point of its own.
 pub(crate) fn take_newest(points: &mut Vec<ChoicePoint>) -> Option<ChoicePoint>
     ensures taken { (notes : List ℕ) → MatchOption result (as_points notes points.old.items ≡ []) (λ p. IsTaken (as_points notes points.old.items) (as_point notes p) (as_points notes points.new.items)) }
-    ensures back { (program : Program) (query : ℕ) (changes : List Change) (notes : List ℕ) (links : List Link) → HasMoments program query changes notes links points.old.items → IfSome result (λ p. GoesBack program query changes notes links p points.new.items) }
+    ensures back { (program : Program) (query : ℕ) (changes : List Change) (notes : List ℕ) (links : List Link) → HasMoments program query changes notes links points.old.items → IfSome result (λ p. HasItsMoment program query changes notes links p points.new.items) }
 {
     match newest(points.as_slice()) {
         None => None,
