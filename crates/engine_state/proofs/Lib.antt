@@ -1,5 +1,6 @@
 mod BackLaws
 mod BelowLaws
+mod CallLaws
 mod CellMoves
 mod ChoiceLaws
 mod Composing

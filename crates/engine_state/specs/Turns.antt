@@ -2,7 +2,7 @@
 -- The headline does not rest on this file.
 use Rattle.std.specs.Prelude.{◌≡◌, ◌≤◌, ◌<◌, ℕ, List, ◌∷◌, ◌++◌, length, Option, None, Some}
 use Rattle.prog_data.specs.declared.programs.Program.{Program}
-use Rattle.machine_model.specs.State.{Choice, Failed, State, Phase, Going}
+use Rattle.machine_model.specs.State.{Choice, Failed, State, Phase, Going, Over}
 use Rattle.machine_model.specs.Tests.{Tests}
 use Rattle.machine_model.specs.Step.{quietly}
 use Rattle.machine_model.specs.Leaner.{IsLeaner}
@@ -87,4 +87,16 @@ IsQuietMove what program bound s (Some p) = Moves what program bound (Going s) (
 pub record HasMoved (old : code.Engine) (from : State) (new : code.Engine) (to : code_stage.Stage) : Type 0 where
   pub program : new.program.now ≡ old.program.now
   pub moves : (what : Tests) (bound : ℕ) → IsQuietMove what old.program.now bound from (phase_of new to)
+  pub whole : IsWhole new to
+
+-- a phase tells the same as a state
+abbrev pub IsSamePhase : Program → State → Option Phase → Type 0
+IsSamePhase program s None = ⊥
+IsSamePhase program s (Some (Over e)) = ⊥
+IsSamePhase program s (Some (Going s')) = IsLeaner program s s'
+
+-- an engine became another one, whose phase tells the same as a state of the old one
+pub record HasBecome (old : code.Engine) (from : State) (new : code.Engine) (to : code_stage.Stage) : Type 0 where
+  pub program : new.program.now ≡ old.program.now
+  pub same : IsSamePhase old.program.now from (phase_of new to)
   pub whole : IsWhole new to

@@ -8,6 +8,7 @@ mod findings;
 mod grounds;
 mod laws;
 mod links;
+mod loading;
 mod marks;
 mod move_laws;
 mod notes;
