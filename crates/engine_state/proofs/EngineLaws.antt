@@ -1,27 +1,31 @@
 -- What an engine goes over into where its links, notes and choice points change.
-use Rattle.std.proofs.Common.{◌≡◌, ◌≤◌, ℕ, List, [], ◌∷◌, ◌++◌, map, reverse, length, refl, sym, ap, subst, ◌∙◌, arith}
-use Rattle.std.proofs.lemmas.List.{reverse-append, length-reverse}
+use Rattle.std.proofs.Common.{◌≡◌, ◌≤◌, ℕ, List, [], ◌∷◌, ◌++◌, map, reverse, length, Some, refl, sym, ap, subst, ◌∙◌, arith}
+use Rattle.std.proofs.lemmas.List.{reverse-append, reverse-reverse, length-reverse}
 use Rattle.std.specs.Prelude.{Vec}
 use Rattle.std.specs.declared.alloc.Global.{Global}
-use Rattle.machine_model.specs.State.{Choice, Doing, cut}
+use Rattle.machine_model.specs.State.{Choice, Doing, cut, exit_mark}
+use Rattle.machine_model.specs.Step.{mark_of}
 use Rattle.term_heap.specs.Changes.{size_of, value_of}
 use Rattle.engine_state.specs.declared.engine.Engine as code
 use Rattle.engine_state.specs.declared.tasks.Task as code_task
 use Rattle.engine_state.specs.declared.tasks.Link as code_link
 use Rattle.engine_state.specs.declared.points.ChoicePoint as code_point
 use Rattle.engine_state.specs.Engines.{Task, alternative_choices, choices_of, frame_with, AreHeld}
-use Rattle.engine_state.specs.Stacks.{height_of, AreCounted, cut_points, IsPushed}
+use Rattle.engine_state.specs.Stacks.{height_of, AreCounted, cut_points, exit_points, mark_at_height, mark_seen, IsPushed}
 use Rattle.engine_state.specs.Views.{as_task, as_alternative, as_point, as_links, as_points, LeadDown}
-use Rattle.engine_state.specs.Notes.{IsAlternativeNoted}
+use Rattle.engine_state.specs.Notes.{IsAlternativeNoted, ArePointsNoted}
+use Rattle.engine_state.specs.Newest.{AreRising}
 use Rattle.engine_state.specs.Moments.{links_held, IsWide, IsAlternativePlaced, ArePlaced, Moments, HasMoments}
 use Rattle.engine_state.specs.Kept.{IsLetGo}
 use Rattle.engine_state.specs.Stages.{choices_at, frame_now, doing, IsKept}
 use Rattle.engine_state.specs.Turns.{GoesTo, HasPushed}
 use Rattle.engine_state.proofs.ChoiceLaws.{pushed_choices, now_choices}
 use Rattle.engine_state.proofs.CutLaws.{heights, cuts, counted}
+use Rattle.engine_state.proofs.EachLaws.{each_reversed}
+use Rattle.engine_state.proofs.ExitLaws.{exits, exit_counted, found_marks}
 use Rattle.engine_state.proofs.LinkLaws.{length_links}
 use Rattle.engine_state.proofs.MomentLaws.{made, moment_now, held_within}
-use Rattle.engine_state.proofs.GivenLaws.{held, down}
+use Rattle.engine_state.proofs.GivenLaws.{held, down, rising, points_noted}
 
 -- how many choices there are
 pub height_at : (e : code.Engine) (h : ℕ) → IsKept e → h ≡ height_of (as_points e.notes.items e.points.items) → h ≡ length (choices_at e)
@@ -133,6 +137,38 @@ module _ (old : code.Engine) (kept : IsKept old) where
         kept = record { in_range = kept.in_range; counted = subst AreCounted (sym is) (counted h (as_points old.notes.items old.points.items) kept.counted); moments = moments };
         there = omega arith;
       }
+
+-- a mark is exited
+pub goes_exited : (old : code.Engine) (kept : IsKept old) (h : ℕ) (new_points : Vec code_point.ChoicePoint Global) → as_points old.notes.items new_points.items ≡ exit_points h (as_points old.notes.items old.points.items) →
+    HasMoments old.program.now old.query old.heap.changes old.notes.items old.links.items new_points.items → GoesTo old (length old.links.items) (exit_mark (Some h) (choices_at old)) (record old { points = new_points })
+goes_exited old kept h new_points is moments =
+    let olds = as_links old.notes.items old.links.items in
+    let points = as_points old.notes.items old.points.items in
+    record {
+      program = refl;
+      heap = refl;
+      calls = refl;
+      query = refl;
+      choices_are = ap (choices_of old.heap.changes olds old.query) is ∙ exits old.heap.changes olds old.query h points kept.counted;
+      tasks = λ j le. refl;
+      kept = record { in_range = kept.in_range; counted = subst AreCounted (sym is) (exit_counted h points kept.counted); moments = moments };
+      there = omega arith;
+    }
+
+-- marks that are looked at
+pub points_rise : (e : code.Engine) → IsKept e → AreRising e.points.items
+points_rise e kept =
+    subst AreRising (reverse-reverse e.points.items)
+    (rising e.program.now e.notes.items e.query e.heap.changes (length e.notes.items) (reverse e.links.items) (reverse e.points.items) kept.moments kept.counted)
+
+pub mark_is : (e : code.Engine) (h : ℕ) → IsKept e → mark_at_height h (as_points e.notes.items e.points.items) ≡ mark_seen (mark_of (Some h) (choices_at e))
+mark_is e h kept = found_marks e.heap.changes (as_links e.notes.items e.links.items) e.query h (as_points e.notes.items e.points.items) kept.counted
+
+pub all_noted : (e : code.Engine) → IsKept e → ArePointsNoted (length e.notes.items) e.points.items
+all_noted e kept =
+    subst (ArePointsNoted (length e.notes.items)) (reverse-reverse e.points.items)
+    (each_reversed (λ p. IsAlternativeNoted (length e.notes.items) p.alternative) (reverse e.points.items)
+    (points_noted e.program.now e.query e.heap.changes (length e.notes.items) (reverse e.links.items) (reverse e.points.items) kept.moments))
 
 -- one after the other
 

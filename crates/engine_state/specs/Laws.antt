@@ -7,12 +7,12 @@ use Rattle.prog_data.specs.declared.goals.Goal.{Goal}
 use Rattle.prog_data.specs.declared.programs.Clause.{Clause}
 use Rattle.prog_data.specs.Goals.{goal_instance}
 use Rattle.machine_model.specs.State.{Call, Try, frame_instance, cut, exit_mark}
-use Rattle.machine_model.specs.Step.{tries, mark_of, mark_conds, mark_exited}
+use Rattle.machine_model.specs.Step.{tries, mark_of}
 use Rattle.term_heap.specs.declared.cells.Cell.TheVariants.{Free}
 use Rattle.term_heap.specs.Changes.{Change, Grows, value_of, size_of, places, undone, IsMade}
 use Rattle.term_heap.specs.Loads.{from_base}
 use Rattle.engine_state.specs.Engines.{Task, Link, chain, ChoicePoint, frame_with, alternative_choices, point_choices, choices_of, AreInOrder, AreHeld}
-use Rattle.engine_state.specs.Stacks.{height_of, AreCounted, cut_points, exit_points, mark_at_height}
+use Rattle.engine_state.specs.Stacks.{height_of, AreCounted, cut_points, exit_points, mark_at_height, mark_seen}
 
 -- what leaves the choices as they are: changes made later, changes undone that are as old as the newest choice point, and links beside those that are held
 pub record ChoicesStay : Type 0 where
@@ -59,8 +59,8 @@ pub record PointsExit : Type 0 where
 
 -- what there is of a mark among the choices is what the choice point at its height has
 abbrev pub MarksAreFound : Type 0
-MarksAreFound = (changes : List Change) (links : List Link) (query height : ℕ) (points : List ChoicePoint) → AreCounted points → let found = mark_of (Some height) (choices_of changes links query points) in
-    mark_at_height height points ≡ record { conds = mark_conds found; exited = mark_exited found }
+MarksAreFound = (changes : List Change) (links : List Link) (query height : ℕ) (points : List ChoicePoint) → AreCounted points →
+    mark_at_height height points ≡ mark_seen (mark_of (Some height) (choices_of changes links query points))
 
 -- the variables of a place's term are cells
 abbrev pub TermsAreBelow : Type 0

@@ -1,6 +1,8 @@
 -- What is done to links and choice points.
 -- The headline does not rest on this file.
-use Rattle.std.specs.Prelude.{◌≡◌, ◌≤◌, ◌<◌, ℕ, ◌+◌, ◌-◌, ◌==◌, nat_le, true, List, [], ◌∷◌, ◌++◌, length, max, drop, Bool, false, if◌then◌else◌, ⊤}
+use Rattle.std.specs.Prelude.{◌≡◌, ◌≤◌, ◌<◌, ℕ, ◌+◌, ◌-◌, ◌==◌, nat_le, true, List, [], ◌∷◌, ◌++◌, length, max, drop, Bool, false, Option, if◌then◌else◌, ⊤}
+use Rattle.machine_model.specs.State.{Choice}
+use Rattle.machine_model.specs.Step.{mark_conds, mark_exited}
 use Rattle.term_heap.specs.Changes.{Change}
 use Rattle.engine_state.specs.Engines.{Task, Link, chain, Alternative, Resumes, Retries, Marks, ChoicePoint, point_choices, choices_of, AreInOrder, AreHeld}
 
@@ -72,6 +74,10 @@ mark_in (Marks p conds exited) = record { conds = conds; exited = exited }
 abbrev pub mark_at_height : ℕ → List ChoicePoint → Marked
 mark_at_height height [] = no_mark
 mark_at_height height (p ∷ ps) = if height == p.below then mark_in p.alternative else mark_at_height height ps
+
+-- what there is of a mark in the choice that was found
+abbrev pub mark_seen : Option Choice → Marked
+mark_seen found = record { conds = mark_conds found; exited = mark_exited found }
 
 -- the newest choice was taken off, as a choice point of its own
 pub record IsTaken (old : List ChoicePoint) (p : ChoicePoint) (new : List ChoicePoint) : Type 0 where

@@ -1,6 +1,6 @@
 -- What functions of the engine do to it.
 -- The headline does not rest on this file.
-use Rattle.std.specs.Prelude.{◌≡◌, ◌≤◌, ◌<◌, ℕ, List, ◌∷◌, ◌++◌, length, Option, None, Some}
+use Rattle.std.specs.Prelude.{◌≡◌, ◌≤◌, ◌<◌, ℕ, List, ◌∷◌, ◌++◌, length, if◌then◌else◌, Option, None, Some}
 use Rattle.prog_data.specs.declared.programs.Program.{Program}
 use Rattle.machine_model.specs.State.{Choice, Failed, State, Phase, Going, Over}
 use Rattle.machine_model.specs.Tests.{Tests}
@@ -9,14 +9,15 @@ use Rattle.machine_model.specs.Leaner.{IsLeaner}
 use Rattle.engine_state.specs.declared.engine.Engine as code
 use Rattle.engine_state.specs.declared.stages.Stage as code_stage
 use Rattle.engine_state.specs.declared.stages.Setting.{Setting}
+use Rattle.engine_state.specs.declared.tasks.Exit as code_exit
 use Rattle.engine_state.specs.declared.tasks.Link as code_link
 use Rattle.engine_state.specs.declared.points.Alternative as code_alternative
 use Rattle.term_heap.specs.Changes.{size_of, value_of, undone}
-use Rattle.engine_state.specs.Engines.{Task, Cuts, alternative_choices, as_state}
+use Rattle.engine_state.specs.Engines.{Task, Cuts, Leaves, alternative_choices, as_state}
 use Rattle.engine_state.specs.Stacks.{width}
-use Rattle.engine_state.specs.Views.{as_links, as_task, as_alternative}
+use Rattle.engine_state.specs.Views.{as_links, as_exit, as_task, as_alternative}
 use Rattle.engine_state.specs.Notes.{IsAlternativeNoted}
-use Rattle.engine_state.specs.Moments.{IsWide, IsLinkPlaced, IsAlternativePlaced}
+use Rattle.engine_state.specs.Moments.{is_idle, IsWide, IsLinkPlaced, IsAlternativePlaced}
 use Rattle.engine_state.specs.Moves.{Moves}
 use Rattle.engine_state.specs.Stages.{as_engine, choices_at, tasks_at, phase_of, IsKept, IsWhole}
 
@@ -37,6 +38,12 @@ pub record HasPushed (old : code.Engine) (task : Task) (rest k : ℕ) (new : cod
   pub first : tasks_at new k ≡ task ∷ tasks_at old rest
   pub first_there : k ≤ length new.links.items
   pub above : rest < k
+
+-- the exit of a call was put before the tasks from a link on, unless it tests nothing
+pub record HasExit (old : code.Engine) (exit : code_exit.Exit) (rest k : ℕ) (new : code.Engine) : Type 0 where
+  pub goes : GoesTo old rest (choices_at old) new
+  pub first : tasks_at new k ≡ (if is_idle exit then tasks_at old rest else Leaves (as_exit old.notes.items exit) ∷ tasks_at old rest)
+  pub first_there : k ≤ length new.links.items
 
 -- a link has the first of the tasks from a number on; what it names is there, and so is the link behind it
 pub record IsFirst (e : code.Engine) (k : ℕ) (l : code_link.Link) : Type 0 where

@@ -1,18 +1,21 @@
 // What a run holds.
-ghost use Rattle.std.specs.Prelude.{◌≡◌, ◌≤◌, ◌++◌, [], ℕ, length, IfOk, OnOk, MatchOption};
+ghost use Rattle.std.specs.Prelude.{◌≡◌, ◌≤◌, ◌++◌, [], ℕ, length, Some, IfOk, OnOk, MatchOption};
 ghost use Rattle.machine_model.specs.State.{cut, exit_mark};
+ghost use Rattle.machine_model.specs.Step.{mark_of};
 ghost use Rattle.term_heap.specs.Changes.{size_of, value_of};
 ghost use Rattle.engine_state.specs.Engines.{Runs, alternative_choices};
-ghost use Rattle.engine_state.specs.Views.{as_links, as_task, as_alternative};
-ghost use Rattle.engine_state.specs.Notes.{IsTaskNoted, IsAlternativeNoted};
-ghost use Rattle.engine_state.specs.Moments.{IsWide, IsGoalPlaced, IsTaskPlaced, IsAlternativePlaced};
+ghost use Rattle.engine_state.specs.Stacks.{mark_seen};
+ghost use Rattle.engine_state.specs.Views.{as_links, as_task, as_alternative, as_marked};
+ghost use Rattle.engine_state.specs.Notes.{IsRowWithin, IsTaskNoted, IsAlternativeNoted};
+ghost use Rattle.engine_state.specs.Moments.{IsWide, IsCallPlaced, IsGoalPlaced, IsTaskPlaced, IsAlternativePlaced};
 ghost use Rattle.engine_state.specs.Stages.{choices_at, tasks_at, IsKept};
-ghost use Rattle.engine_state.specs.Turns.{GoesTo, IsFirst, HasPushed, HasTaken};
+ghost use Rattle.engine_state.specs.Turns.{GoesTo, IsFirst, HasExit, HasPushed, HasTaken};
 
 use crate::links::{let_go, link_at, push_link};
+use crate::marks::{Marked, exit_mark, mark_at};
 use crate::points::{Alternative, ChoicePoint, cut_points, height, held_links, take_newest};
 use crate::stages::Setting;
-use crate::tasks::{Link, Task};
+use crate::tasks::{Exit, Link, Task, is_idle};
 use prog_data::{Goal, Program};
 use term_core::NoMemory;
 use term_heap::{Heap, HeapMark};
@@ -106,6 +109,25 @@ impl<'p> Engine<'p> {
         Ok(number)
     }
 
+    /// Puts the exit of a call before the tasks from a link on, unless it tests nothing; the link with the first of the tasks then.
+    ///
+    /// # Errors
+    ///
+    /// Only for want of memory.
+    pub(crate) fn put_exit(&mut self, exit: Exit, rest: u64) -> Result<u64, NoMemory>
+        requires kept { IsKept self.old }
+        requires rest { rest ≤ length self.old.links.items }
+        requires placed { IsCallPlaced self.old.program.now (size_of self.old.heap.changes) exit.pred exit.args }
+        requires noted { IsRowWithin (length self.old.notes.items) exit.noted }
+        ensures { IfOk result (λ k. HasExit self.old exit rest k self.new) }
+    {
+        if is_idle(exit) {
+            return Ok(rest);
+        }
+        let number = self.push(Task::Leaves(exit), rest)?;
+        Ok(number)
+    }
+
     /// Makes a choice point of now.
     ///
     /// # Errors
@@ -136,6 +158,23 @@ impl<'p> Engine<'p> {
         ensures { GoesTo self.old (length self.old.links.items) (cut height (choices_at self.old)) self.new }
     {
         cut_points(&mut self.points, height);
+    }
+
+    /// Exits the mark with so many choices below it, if there is one.
+    pub(crate) fn exit_at(&mut self, height: u64)
+        requires { IsKept self.old }
+        ensures { GoesTo self.old (length self.old.links.items) (exit_mark (Some height) (choices_at self.old)) self.new }
+    {
+        exit_mark(&mut self.points, height);
+    }
+
+    /// The conditions of the mark with so many choices below it, and whether it was exited. Where there is no such mark there are none.
+    pub(crate) fn mark_at(&self, height: u64) -> Marked
+        requires { IsKept self.now }
+        ensures mark { as_marked self.now.notes.items result ≡ mark_seen (mark_of (Some height) (choices_at self.now)) }
+        ensures noted { IsRowWithin (length self.now.notes.items) result.conds }
+    {
+        mark_at(self.points.as_slice(), height)
     }
 
     /// Takes the newest choice off and goes back to its moment; its alternative, if there is one.
