@@ -1,4 +1,7 @@
 // What is to be done, in links.
+ghost use Rattle.std.specs.Prelude.{◌≡◌};
+ghost use Rattle.engine_state.specs.Moments.{is_idle};
+
 use prog_data::{Goal, Place};
 
 /// Numbers in a row: the place of the first, and how many.
@@ -24,6 +27,8 @@ pub(crate) enum Task<'p> {
     Runs(&'p Goal, u64, u64, Place),
     /// Choices are cut to a height.
     Cuts(u64),
+    /// Failure, with the height and the place of a goal.
+    Fails(u64, Place),
     Leaves(Exit),
 }
 
@@ -33,4 +38,14 @@ pub(crate) struct Link<'p> {
     pub task: Task<'p>,
     pub next: u64,
     pub notes: u64,
+}
+
+/// Whether an exit tests nothing.
+pub(crate) fn is_idle(exit: Exit) -> bool
+    ensures { result ≡ is_idle exit }
+{
+    match exit.mark {
+        None => exit.noted.count == 0,
+        Some(_) => false,
+    }
 }
