@@ -29,7 +29,7 @@ pub(crate) fn adds_disjunct(keyword: Option<Keyword>) -> bool
     }
 }
 
-/// The number behind so many conditions; a greater one than `u64` has is none, since no memory holds so many.
+/// The number behind so many conditions; one that `u64` does not have is answered as want of memory.
 pub(crate) fn number_behind(first: u64, count: usize) -> Result<u64, NoMemory>
     ensures { IfOk result (λ number. number ≡ count + first) }
 {
