@@ -1,4 +1,4 @@
-use Rattle.std.proofs.Common.{◌≡◌, sym, subst}
+use Rattle.std.proofs.Common.{sym, subst}
 use Rattle.prog_data.specs.Programs.{IsProgram}
 use Rattle.name_order.specs.Relations.{order}
 use Rattle.goal_transfer.specs.Tables.{row_seen, IsRow, Closed}
