@@ -200,3 +200,7 @@ module _ (given : GiveValues (order basic_grammar)) (ordered : AreOrdered (order
     calls = λ p clause r has. fact_calls p clause has;
     exits = λ p clause r has. fact_exits p clause has;
   }
+
+-- the table of a program, where both are these
+pub moved : (program made : Program) (rows others : List Facts) → made ≡ program → others ≡ rows → Closed program rows → Closed made others
+moved program made rows others e f closed = subst (λ p. Closed p others) (sym e) (subst (Closed program) (sym f) closed)
