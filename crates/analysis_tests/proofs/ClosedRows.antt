@@ -1,15 +1,13 @@
 -- The tables of the small programs are closed.
-use Rattle.std.proofs.Common.{◌≡◌, ℕ, zero, suc, ◌<◌, Bool, true, List, [], ◌∷◌, length, map, refl, ap, sym, ◌∙◌, subst, arith}
-use Rattle.std.specs.Prelude.{slice_index_or, Option, None, Some, Contains, IsTrue}
+use Rattle.std.proofs.Common.{◌≡◌, ℕ, zero, suc, ◌<◌, Bool, List, [], ◌∷◌, refl, ap, sym, ◌∙◌, subst, arith}
+use Rattle.std.specs.Prelude.{slice_index_or, Option, Some, Contains, IsTrue}
 use Rattle.std.specs.List.{AllByRecursion}
-use Rattle.term_core.specs.declared.terms.Term.{Term}
 use Rattle.term_core.specs.declared.terms.Term as term
 use Rattle.term_core.proofs.TermFolds.{fold-Var}
 use Rattle.prog_data.specs.declared.conditions.CondKind.{CondKind}
 use Rattle.prog_data.specs.declared.goals.Goal.{Goal}
 use Rattle.prog_data.specs.declared.goals.Goal as goal
 use Rattle.prog_data.specs.declared.programs.Clause.{Clause}
-use Rattle.prog_data.specs.declared.programs.Entry.{Entry}
 use Rattle.prog_data.specs.declared.programs.Program.{Program}
 use Rattle.prog_data.specs.BasicNames.{basic_grammar}
 use Rattle.prog_data.specs.Goals.{pred_of}
@@ -17,11 +15,11 @@ use Rattle.prog_data.specs.Values.{TypeValue}
 use Rattle.prog_data.proofs.GoalFolds.{fold-True, fold-Call}
 use Rattle.name_order.specs.Relations.{Order, order}
 use Rattle.type_domain.specs.Values.{term_name, has_name, is_set, IsValue, Leq, meet, of_name}
-use Rattle.type_domain.specs.Laws.{GiveValues, AreOrdered, LeqEach}
-use Rattle.goal_transfer.specs.Transfer.{Values, Known, then_known, with_changed, set_value, term_value_step, term_value, push_step, push_each, ReachedCall, Outcome, from_known, Exits, behind_call, outcome_step, run_goal}
+use Rattle.type_domain.specs.Laws.{GiveValues, AreOrdered}
+use Rattle.goal_transfer.specs.Transfer.{Values, then_known, with_changed, set_value, term_value_step, term_value, push_step, push_each, ReachedCall, from_known, behind_call, outcome_step, run_goal}
 use Rattle.goal_transfer.specs.Conditions.{narrowed_entry}
-use Rattle.goal_transfer.specs.Tables.{Facts, facts_of, AreValues, IsRow, IsTable, exits_of, unknown, behind_head, clause_outcome, values_known, ClauseEffect, effect_of, clause_effect, IsReached, HasExit, entry_call, Closed}
-use Rattle.analysis_tests.specs.Small.{clause_of, any_call, bare, chain, fact, facts, of_type, chain_rows, fact_rows}
+use Rattle.goal_transfer.specs.Tables.{Facts, facts_of, IsRow, IsTable, exits_of, unknown, behind_head, clause_outcome, values_known, ClauseEffect, effect_of, clause_effect, IsReached, HasExit, entry_call, Closed}
+use Rattle.analysis_tests.specs.Small.{clause_of, bare, chain, fact, facts, of_type, chain_rows, fact_rows}
 
 -- what is in a list of none or one
 
@@ -202,3 +200,7 @@ module _ (given : GiveValues (order basic_grammar)) (ordered : AreOrdered (order
     calls = λ p clause r has. fact_calls p clause has;
     exits = λ p clause r has. fact_exits p clause has;
   }
+
+-- the table of a program, where both are these
+pub moved : (program made : Program) (rows others : List Facts) → made ≡ program → others ≡ rows → Closed program rows → Closed made others
+moved program made rows others e f closed = subst (λ p. Closed p others) (sym e) (subst (Closed program) (sym f) closed)
