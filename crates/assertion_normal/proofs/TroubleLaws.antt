@@ -14,7 +14,7 @@ use Rattle.assertion_normal.specs.declared.troubles.Troubled.{Troubled}
 use Rattle.assertion_normal.specs.Settling.{IsNoRoom, all_settled}
 use Rattle.assertion_normal.specs.Troubles.{trouble_of, at_line, is_before, sooner, least_from, troubled, least_trouble, told_at, told}
 use Rattle.assertion_normal.specs.Normals.{given, IsNormalFault}
-use Rattle.assertion_normal.specs.Ranges.{IsLeft}
+use Rattle.assertion_normal.specs.Ranges.{IsKept}
 use Rattle.assertion_normal.specs.Laws.{IsFirstTrouble, TroublesAreFound}
 use Rattle.assertion_normal.proofs.EachLaws.{each_in}
 use Rattle.assertion_normal.proofs.FirstTroubles.{same_troubled, later, first_is}
@@ -92,18 +92,18 @@ module _ (names : List (List ℕ)) (file : ℕ) (seen : List Seen) (g : Grammar)
   no_room_told TooManyNames none h = (none, ap (option_map (given names file seen g pred first list)) h)
   no_room_told NoMemory none h = tt
 
--- what is left of the grammar
+-- what the grammar is then
 
 module _ (old : Grammar) where
-  left_by : (line : ℕ) (t : Trouble) → IsLeft old old (told_at line t)
-  left_by line what.Unknown = refl
-  left_by line what.Several = refl
+  kept_by : (line : ℕ) (t : Trouble) → IsKept old old (told_at line t)
+  kept_by line what.Unknown = refl
+  kept_by line what.Several = refl
 
-  pub trouble_left : (t : Troubled) → IsLeft old old (told t)
-  trouble_left t = left_by t.line t.trouble
+  pub trouble_kept : (t : Troubled) → IsKept old old (told t)
+  trouble_kept t = kept_by t.line t.trouble
 
-  pub no_room_left : {A : Type 0} (new : Grammar) (o : Option A) (fault : NormalFault) → IsNoRoom o fault → IsLeft old new fault
-  no_room_left new o (UnknownProperty line) h = absurd h
-  no_room_left new o (Ambiguous line) h = absurd h
-  no_room_left new o TooManyNames h = tt
-  no_room_left new o NoMemory h = tt
+  pub no_room_kept : {A : Type 0} (new : Grammar) (o : Option A) (fault : NormalFault) → IsNoRoom o fault → IsKept old new fault
+  no_room_kept new o (UnknownProperty line) h = absurd h
+  no_room_kept new o (Ambiguous line) h = absurd h
+  no_room_kept new o TooManyNames h = tt
+  no_room_kept new o NoMemory h = tt

@@ -41,12 +41,12 @@ pub record IsGrown (seen : List Seen) (old new : Grammar) : Type 0 where
   pub named : RulesStayNamed old new
   pub range : IsGrammar old → AreSeen old seen → IsGrammar new
 
--- where a name is in trouble, the grammar is left as it was
-abbrev pub IsLeft : Grammar → Grammar → NormalFault → Type 0
-IsLeft old new (UnknownProperty line) = new ≡ old
-IsLeft old new (Ambiguous line) = new ≡ old
-IsLeft old new TooManyNames = Unit {0}
-IsLeft old new NoMemory = Unit {0}
+-- where a name is in trouble, the grammar stays as it was
+abbrev pub IsKept : Grammar → Grammar → NormalFault → Type 0
+IsKept old new (UnknownProperty line) = new ≡ old
+IsKept old new (Ambiguous line) = new ≡ old
+IsKept old new TooManyNames = Unit {0}
+IsKept old new NoMemory = Unit {0}
 
 -- assertions in range of so many names, about a predicate of so many arguments
 abbrev pub AreAbout : (names arity : ℕ) → List Assertion → Type 0

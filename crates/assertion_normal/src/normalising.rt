@@ -1,7 +1,7 @@
 // The conditions, claims and entries of a predicate.
 ghost use Rattle.std.specs.Prelude.{◌≡◌, IfOk, IfErr};
 ghost use Rattle.assertion_normal.specs.Normals.{IsNormal, IsNormalFault};
-ghost use Rattle.assertion_normal.specs.Ranges.{IsGrown, IsLeft, StaysInRange};
+ghost use Rattle.assertion_normal.specs.Ranges.{IsGrown, IsKept, StaysInRange};
 ghost use Rattle.assertion_normal.specs.Laws.{IsOfPredicate};
 
 use crate::claims::normal_of;
@@ -34,7 +34,7 @@ pub fn normalise(
     ensures of_predicate { IfOk result (IsOfPredicate file pred first) }
     ensures range { IfOk result (λ normal. StaysInRange visible.now grammar.old list.now grammar.new normal) }
     ensures err { IfErr result (IsNormalFault names.now file visible.now grammar.old pred first list.now) }
-    ensures left { IfErr result (IsLeft grammar.old grammar.new) }
+    ensures kept { IfErr result (IsKept grammar.old grammar.new) }
     ensures grown { IsGrown visible.now grammar.old grammar.new }
 {
     conditions_law();
