@@ -10,7 +10,7 @@ use Rattle.term_core.specs.declared.terms.Term.{Term, Atom, Node, out-Term, roll
 use Rattle.term_core.specs.declared.terms.Term.TheOpen as layer
 use Rattle.term_core.specs.declared.terms.Term.TheVariants.{rolls-Atom, rolls-Node}
 use Rattle.term_core.specs.Ranges.{IsInRange}
-use Rattle.term_core.specs.Shapes.{parts_of}
+use Rattle.term_core.specs.Shapes.{parts_of, split}
 use Rattle.ciao_reader.specs.declared.sentences.Sentence.{Sentence}
 use Rattle.prog_data.specs.declared.goals.Goal.{Goal, out-Goal, roll-Goal, roll-out-Goal}
 use Rattle.prog_data.specs.declared.goals.Goal as goal
@@ -27,8 +27,8 @@ use Rattle.body_code.specs.declared.scopes.Visible.{Visible}
 use Rattle.body_code.specs.Making.{made, followed}
 use Rattle.body_code.specs.Clauses.{may_be_head, indicator_where, indicator_at, head_of, body_term, indicator_of, body_goal, clause_with, compiled_with, compiled}
 use Rattle.body_code.specs.Ranges.{HasAllOf, IsClauseOf, StaysInRange}
-use Rattle.body_code.proofs.TermRanges.{is_less, atom_name, compound_name, compound_parts, compound_length, split_in}
-use Rattle.body_code.proofs.GoalRanges.{AreTerms, IsGoal, MadeIn, terms_pass, body_in}
+use Rattle.body_code.proofs.TermRanges.{is_less, atom_name, compound_name, compound_parts, compound_length, SplitIn, split_in}
+use Rattle.body_code.proofs.GoalRanges.{IsGoal, MadeIn, terms_pass, body_in}
 
 -- goals in range are bodies in range, with no exit
 module _ (program : Program) (vars : ℕ) where
@@ -79,7 +79,7 @@ record HeadIn (program : Program) (vars : ℕ) (indicator : Indicator) (args : L
   name : indicator.name < length program.names
   arity : indicator.arity ≡ length args
   few : length args ≤ 255
-  terms : AreTerms program vars args
+  terms : AllByRecursion (IsInRange (length program.names) vars) args
 
 module _ (program : Program) (vars : ℕ) where
   where_in : (b : Bool) (name arity : ℕ) (i : Indicator) → indicator_where b name arity ≡ Some i → record { name = name; arity = arity } ≡ i
@@ -106,7 +106,7 @@ is_equal n m e = grind (arith, nat_tests)
 -- clauses in range
 module _ (visible : Visible) (file : ℕ) (s : Sentence) (old new : Grammar) (c : Compiled) where
   module _ (program : Program) (has : HasAllOf program visible s file new) where
-    sides : _
+    sides : SplitIn (length program.names) s.vars (split NECK s.term)
     sides = split_in (length program.names) s.vars NECK s.term has.sentence
 
     -- the clause of a head and a goal in range

@@ -27,7 +27,7 @@ conjoined_more [] g last = refl
 conjoined_more (x ∷ gs) g last = ap (goal.Conj x) (conjoined_more gs g last)
 
 -- what is refused as a part is refused as a whole, where there is no room for the part
-pub refuses : {A B : Type 0} (fault : BodyFault) (g k : Grammar) (part : Option (A × Grammar)) (whole : Option (B × Grammar)) → (part ≡ None → whole ≡ None) → Makes {A} (Err fault) g part → Makes {B} (Err fault) k whole
+pub refuses : {A B : Type 0} (fault : BodyFault) (g k : Grammar) (part : Option (A × Grammar)) (whole : Option (B × Grammar)) → (part ≡ None → whole ≡ None) → Makes {A = A} (Err fault) g part → Makes {A = B} (Err fault) k whole
 refuses (UnknownProperty line) g k part whole leads h = h
 refuses (BadClause line) g k part whole leads h = h
 refuses (Ambiguous line) g k part whole leads h = h
@@ -60,11 +60,11 @@ module _ (visible : Visible) where
   goal_turn t a b gs more g k x whole e first pushed h =
       ap (λ goals. option_map (conjoined_before goals) ((body_of visible b).makes k)) pushed
       ∙ behind ((body_of visible b).makes k)
-      ∙ ap (λ o. option_map (conjoined_before gs) (followed (λ both. made (goal.Conj both.0 both.1)) (followed (λ left. (body_of visible b).makes >>= (λ right. made (left, right))) o))) (sym first)
+      ∙ ap (λ o. option_map (conjoined_before gs) (followed {A = Goal × Goal} (λ both. made (goal.Conj both.0 both.1)) (followed {A = Goal} (λ left. (body_of visible b).makes >>= (λ right. made (left, right))) o))) (sym first)
       ∙ ap (λ m. option_map (conjoined_before gs) (m g)) (sym (conjunction_makes t a b e))
       ∙ h
     where
-      behind : (o : Option (Goal × Grammar)) → option_map (conjoined_before (gs ++ x ∷ [])) o ≡ option_map (conjoined_before gs) (followed (λ both. made (goal.Conj both.0 both.1)) (followed (λ right. made (x, right)) o))
+      behind : (o : Option (Goal × Grammar)) → option_map (conjoined_before (gs ++ x ∷ [])) o ≡ option_map (conjoined_before gs) (followed {A = Goal × Goal} (λ both. made (goal.Conj both.0 both.1)) (followed {A = Goal} (λ right. made (x, right)) o))
       behind None = refl
       behind (Some y) = ap (λ last. Some (last, y.1)) (conjoined_more gs x y.0)
 
@@ -73,7 +73,7 @@ module _ (visible : Visible) where
   goal_stops t a b gs g whole e h none =
       sym h
       ∙ ap (λ m. option_map (conjoined_before gs) (m g)) (conjunction_makes t a b e)
-      ∙ ap (λ o. option_map (conjoined_before gs) (followed (λ both. made (goal.Conj both.0 both.1)) (followed (λ left. (body_of visible b).makes >>= (λ right. made (left, right))) o))) none
+      ∙ ap (λ o. option_map (conjoined_before gs) (followed {A = Goal × Goal} (λ both. made (goal.Conj both.0 both.1)) (followed {A = Goal} (λ left. (body_of visible b).makes >>= (λ right. made (left, right))) o))) none
 
   -- the last part
   pub last_stops : (gs : List Goal) (o whole : Option (Goal × Grammar)) → option_map (conjoined_before gs) o ≡ whole → o ≡ None → whole ≡ None
@@ -94,7 +94,7 @@ module _ (visible : Visible) where
       at_node f (a ∷ []) n = refl
       at_node f (a ∷ b ∷ []) n = test (f == ARROW) n
         where
-          test : (s : Bool) → cond s (Some (a, b)) None ≡ None → cond s (Some ((body_of visible a).makes, (body_of visible b).makes)) None ≡ None
+          test : (s : Bool) → ◌≡◌ {A = Option (Term × Term)} (cond s (Some (a, b)) None) None → ◌≡◌ {A = Option (Making Goal × Making Goal)} (cond s (Some ((body_of visible a).makes, (body_of visible b).makes)) None) None
           test true m = absurd (none-some _ (sym m))
           test false m = refl
       at_node f (a ∷ b ∷ c ∷ rest) n = refl

@@ -44,11 +44,11 @@ use Rattle.body_code.proofs.TableRows.{builtin_in}
 -- what passes a filter has the property that it had, and passes the test
 each_filter : {A : Type 0} (P : A → Type 0) (test : A → Bool) (xs : List A) → AllByRecursion P xs → AllByRecursion (λ x. P x × (test x ≡ true)) (filter test xs)
 each_filter P test [] h = tt
-each_filter P test (x ∷ xs) h = by (test x) refl
+each_filter P test (x ∷ xs) h = by (each_filter P test xs h.1) (test x) refl
   where
-    by : (b : Bool) → test x ≡ b → AllByRecursion (λ y. P y × (test y ≡ true)) (cond b (x ∷ filter test xs) (filter test xs))
-    by true e = ((h.0, e), each_filter P test xs h.1)
-    by false e = each_filter P test xs h.1
+    by : AllByRecursion (λ y. P y × (test y ≡ true)) (filter test xs) → (b : Bool) → test x ≡ b → AllByRecursion (λ y. P y × (test y ≡ true)) (cond b (x ∷ filter test xs) (filter test xs))
+    by others true e = ((h.0, e), others)
+    by others false e = others
 
 equal : (n m : ℕ) → (n == m) ≡ true → n ≡ m
 equal n m e = grind (arith, nat_tests)
@@ -181,7 +181,7 @@ module _ (program : Program) (visible : Visible) (vars : ℕ) (named : ArePredsO
   list_test_in (t ∷ u ∷ []) h = by (out-Term u) refl
     where
       tests : (m : TypeMeaning) → is_atom (out-Term u) ≡ true → Ranged IsGoal (list_test m (t ∷ u ∷ []))
-      tests (type.One element) e g =
+      tests (type.One element) e = λ g.
           then_in (λ name. name < length program.grammar.rules) IsGoal g (list_name element g) (λ name. made (goal.Builtin (builtin.Belongs name) (t ∷ u ∷ []))) (list_name_in element g)
           (λ name k le below. (
             omega arith,
@@ -232,7 +232,7 @@ module _ (program : Program) (visible : Visible) (vars : ℕ) (named : ArePredsO
 
   control_in : (c : Control) (parts : List Body) → AllByRecursion BodyIn parts → Ranged IsGoal (control_goal c parts)
   control_in c [] h = made_in (lone_goal c) (lone_in c)
-  control_in c (a ∷ []) h g = then_in IsGoal IsGoal g (a.makes g) (λ inner. made (goal.Not inner)) (h.0.makes g) (λ inner k le one. (omega arith, λ within. not_in inner (one within)))
+  control_in c (a ∷ []) h = λ g. then_in IsGoal IsGoal g (a.makes g) (λ inner. made (goal.Not inner)) (h.0.makes g) (λ inner k le one. (omega arith, λ within. not_in inner (one within)))
   control_in c (a ∷ b ∷ []) h = pair_in c a b h.0 h.1.0
   control_in c (a ∷ b ∷ d ∷ rest) h = made_in goal.Fail fail_in
 

@@ -1,6 +1,9 @@
 -- An index of predicates, one after the other.
-use Rattle.std.proofs.Common.{◌≡◌, ℕ, ◌+◌, ◌<◌, Bool, true, false, List, [], ◌∷◌, length, get_or, drop, refl, ap, sym, ◌∙◌}
+use Rattle.std.proofs.Common.{◌≡◌, ℕ, Bool, true, false, List, [], ◌∷◌, refl, ap, sym, ◌∙◌, arith}
+use Rattle.std.proofs.lemmas.Bool.{and_parts}
+use Rattle.std.proofs.lemmas.Bool.Decides.{nat_tests}
 use Rattle.std.specs.Prelude.{cond, filter, nat_eq, ◌&&◌, ◌==◌, Option, Some, None}
+use Rattle.std.specs.Map.{lookup}
 use Rattle.indexmap.specs.IndexMap.{IndexMap, get}
 use Rattle.body_code.specs.declared.scopes.Named.{Named}
 use Rattle.body_code.specs.declared.scopes.Callee.{Callee}
@@ -22,6 +25,24 @@ pub from_nothing : (ns : List Named) → with_more Unknown ns ≡ meaning_of_pre
 from_nothing [] = refl
 from_nothing (n ∷ []) = refl
 from_nothing (n ∷ m ∷ rest) = several_stays rest
+
+-- an index of nothing
+pub empty_finds : {S : Type 0} (index : IndexMap (ℕ × ℕ) Callee S) → index.entries ≡ [] → (name arity : ℕ) → looked_up index name arity ≡ Unknown
+empty_finds index e name arity = ap (λ es. found_or_unknown (lookup (same_key (name, arity)) es)) e
+
+equal : (n m : ℕ) → nat_eq n m ≡ true → n ≡ m
+equal n m e = grind (arith, nat_tests)
+
+-- an index with a predicate more
+pub one_added : {S : Type 0} (old new : IndexMap (ℕ × ℕ) Callee S) (n : Named) (v : Callee) → ((q : ℕ × ℕ) → get same_key new q ≡ cond (same_key (n.name, n.arity) q) (Some v) (get same_key old q)) → v ≡ one_more (looked_up old n.name n.arity) n.pred
+    → (name arity : ℕ) → looked_up new name arity ≡ cond (is_named name arity n) (one_more (looked_up old name arity) n.pred) (looked_up old name arity)
+one_added old new n v updates is name arity = ap found_or_unknown (updates (name, arity)) ∙ by (same_key (n.name, n.arity) (name, arity)) refl
+  where
+    by : (b : Bool) → same_key (n.name, n.arity) (name, arity) ≡ b → found_or_unknown (cond b (Some v) (get same_key old (name, arity))) ≡ cond b (one_more (looked_up old name arity) n.pred) (looked_up old name arity)
+    by true e =
+        let parts = and_parts (nat_eq n.name name) (nat_eq n.arity arity) e in
+        is ∙ ap (λ k. one_more (looked_up old k n.arity) n.pred) (equal n.name name parts.0) ∙ ap (λ k. one_more (looked_up old name k) n.pred) (equal n.arity arity parts.1)
+    by false e = refl
 
 -- one predicate more
 pub next_named : (name arity : ℕ) (found : Callee) (n : Named) (ns : List Named) →

@@ -8,3 +8,5 @@ pub mod TableRows
 pub mod GoalRanges
 pub mod ClauseRanges
 pub mod ConjunctionLaws
+pub mod Measures
+pub mod Outcomes

@@ -30,21 +30,21 @@ equal n m e = grind (arith, nat_tests)
 
 among : (rows : List Predefined) (name arity : ℕ) (m : Meaning) → list_all (λ row. fits row.2 row.1) rows ≡ true → meaning_among rows name arity ≡ Some m → fits m arity ≡ true
 among [] name arity m all e = absurd (none-some _ e)
-among (row ∷ rows) name arity m all e = by ((row.0 == name) && (row.1 == arity)) refl e
+among (row ∷ rows) name arity m all e = by (among rows name arity m rest) ((row.0 == name) && (row.1 == arity)) refl e
   where
     rest : list_all (λ r. fits r.2 r.1) rows ≡ true
     rest = (and_parts (fits row.2 row.1) _ all).1
 
-    by : (b : Bool) → ((row.0 == name) && (row.1 == arity)) ≡ b → option_map (λ r. r.2) (cond b (Some row) (find (λ r. (r.0 == name) && (r.1 == arity)) rows)) ≡ Some m → fits m arity ≡ true
-    by false is i = among rows name arity m rest i
-    by true is i =
+    by : (meaning_among rows name arity ≡ Some m → fits m arity ≡ true) → (b : Bool) → ((row.0 == name) && (row.1 == arity)) ≡ b → option_map (λ r. r.2) (cond b (Some row) (find (λ r. (r.0 == name) && (r.1 == arity)) rows)) ≡ Some m → fits m arity ≡ true
+    by others false is i = others i
+    by others true is i =
         ap (λ n. fits m n) (sym (equal row.1 arity (and_parts (row.0 == name) _ is).1)) ∙ ap (λ k. fits k row.1) (sym (same_Some _ _ i)) ∙ (and_parts (fits row.2 row.1) _ all).0
 
 -- a test of one argument
 test_of : (size type : ℕ) (ts : List Term) → ((length ts == 1) && nat_lt type 10) ≡ true → is_builtin_of size (builtin.Belongs type) ts ≡ true
 test_of size type [] e = absurd (true≢false (sym e))
 test_of size type (t ∷ []) e = e
-test_of size type (t ∷ u ∷ ts) e = absurd (true≢false (sym e))
+test_of size type (t ∷ u ∷ ts) e = let one : length (t ∷ u ∷ ts) ≡ 1 = equal (length (t ∷ u ∷ ts)) 1 (and_parts (length (t ∷ u ∷ ts) == 1) (nat_lt type 10) e).0 in absurd (omega (arith, one))
 
 taken : (size : ℕ) (b : BuiltinName) (ts : List Term) → takes b (length ts) ≡ true → is_builtin_of size b ts ≡ true
 taken size builtin.Unify ts e = e

@@ -1,7 +1,7 @@
 // Heads of clauses, and what is wrong with a sentence as a clause.
-ghost use Rattle.std.specs.Prelude.{◌≡◌, option_copied};
+ghost use Rattle.std.specs.Prelude.{◌≡◌};
 ghost use Rattle.term_core.specs.declared.terms.Term.{out-Term};
-ghost use Rattle.body_code.specs.Clauses.{is_sentence_name, may_be_head, indicator_where, indicator_at, indicator_of, body_problem, problem_with, problem_of};
+ghost use Rattle.body_code.specs.Clauses.{is_sentence_name, may_be_head, indicator_where, indicator_at, indicator_of, body_term, body_problem, problem_of};
 
 use crate::problems::problem_in;
 use crate::{Indicator, Problem, Scope};
@@ -36,8 +36,8 @@ fn indicator_where(name: u64, arity: u64) -> Option<Indicator>
     }
 }
 
-/// The name and the number of arguments of a head.
-pub(crate) fn head_indicator(head: &Term) -> Option<Indicator>
+// The name and the number of arguments of a head.
+fn head_indicator(head: &Term) -> Option<Indicator>
     ensures { result ≡ indicator_at (out-Term head.now) }
 {
     match head {
@@ -51,15 +51,14 @@ pub(crate) fn head_indicator(head: &Term) -> Option<Indicator>
 pub fn clause_indicator(sentence: &Term) -> Option<Indicator>
     ensures { result ≡ indicator_of sentence.now }
 {
-    let (head, _body) = sentence.split(NECK);
-    head_indicator(head)
+    head_indicator(sentence.split(NECK).0)
 }
 
-/// The problem of a body, where there is one.
-pub(crate) fn body_problem(scope: &Scope, body: Option<&Term>) -> Option<Problem>
-    ensures { result ≡ body_problem scope.now (option_copied body) }
+/// The problem of the body of a sentence, where there is one.
+pub(crate) fn body_problem(scope: &Scope, sentence: &Term) -> Option<Problem>
+    ensures { result ≡ body_problem scope.now (body_term sentence.now) }
 {
-    match body {
+    match sentence.split(NECK).1 {
         None => None,
         Some(body) => problem_in(scope, body),
     }
@@ -69,9 +68,8 @@ pub(crate) fn body_problem(scope: &Scope, body: Option<&Term>) -> Option<Problem
 pub fn clause_problem(scope: &Scope, sentence: &Term) -> Option<Problem>
     ensures { result ≡ problem_of scope.now sentence.now }
 {
-    let (head, body) = sentence.split(NECK);
-    match head_indicator(head) {
+    match clause_indicator(sentence) {
         None => Some(Problem::BadClause),
-        Some(_) => body_problem(scope, body),
+        Some(_) => body_problem(scope, sentence),
     }
 }

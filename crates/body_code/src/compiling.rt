@@ -1,11 +1,11 @@
 // The clause that a sentence is.
-ghost use Rattle.std.specs.Prelude.{◌≡◌, Some, option_copied, IfOk, IfErr};
+ghost use Rattle.std.specs.Prelude.{◌≡◌, Some, IfOk, IfErr};
 ghost use Rattle.body_code.specs.Making.{Makes};
-ghost use Rattle.body_code.specs.Clauses.{told, body_goal, compiled_with, IsCompiled, IsNoClause};
+ghost use Rattle.body_code.specs.Clauses.{told, body_term, body_goal, compiled_with, IsCompiled, IsNoClause};
 ghost use Rattle.body_code.specs.Ranges.{Grows, StaysInRange};
 
 use crate::bodies::goal_of;
-use crate::clauses::{body_problem, head_indicator};
+use crate::clauses::{body_problem, clause_indicator};
 use crate::goals::copied_all;
 use crate::{BodyFault, Compiled, Indicator, Problem, Scope};
 use ciao_reader::Sentence;
@@ -25,17 +25,17 @@ fn told(problem: Problem, line: u64) -> BodyFault
     }
 }
 
-// The goal that a body is; `true` where there is none.
+// The goal that the body of a sentence is; `true` where there is none.
 fn body_goal(
     alloc: Global,
     scope: &Scope,
     grammar: &mut Grammar,
-    body: Option<&Term>,
+    sentence: &Term,
 ) -> Result<Goal, BodyFault>
-    ensures made { Makes result grammar.new (body_goal scope.now (option_copied body) grammar.old) }
+    ensures made { Makes result grammar.new (body_goal scope.now (body_term sentence.now) grammar.old) }
     ensures grows { Grows scope.now grammar.old grammar.new }
 {
-    match body {
+    match sentence.split(NECK).1 {
         None => Ok(Goal::True),
         Some(body) => goal_of(alloc, scope, grammar, body),
     }
@@ -53,9 +53,9 @@ fn clause_of(
     ensures made { Makes result grammar.new (compiled_with scope.now file sentence.now (Some indicator) grammar.old) }
     ensures grows { Grows scope.now grammar.old grammar.new }
 {
-    let (head, body) = sentence.term.split(NECK);
+    let head = sentence.term.split(NECK).0;
     let arguments = copied_all(alloc, head.parts())?;
-    let goal = body_goal(alloc, scope, grammar, body)?;
+    let goal = body_goal(alloc, scope, grammar, &sentence.term)?;
     Ok(Compiled {
         name: indicator.name,
         arity: indicator.arity,
@@ -87,10 +87,9 @@ pub fn compile_clause(
     ensures range { IfOk result (λ c. StaysInRange scope.now sentence.now file grammar.new c) }
     ensures grows { Grows scope.now grammar.old grammar.new }
 {
-    let (head, body) = sentence.term.split(NECK);
-    match head_indicator(head) {
+    match clause_indicator(&sentence.term) {
         None => Err(BodyFault::BadClause(sentence.line)),
-        Some(indicator) => match body_problem(scope, body) {
+        Some(indicator) => match body_problem(scope, &sentence.term) {
             Some(problem) => Err(told(problem, sentence.line)),
             None => clause_of(alloc, scope, grammar, sentence, file, indicator),
         },
