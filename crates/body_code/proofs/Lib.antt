@@ -10,3 +10,4 @@ pub mod ClauseRanges
 pub mod ConjunctionLaws
 pub mod Measures
 pub mod Outcomes
+pub mod FirstProblems

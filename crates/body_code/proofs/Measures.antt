@@ -3,7 +3,6 @@ use Rattle.std.proofs.Common.{◌≡◌, ◌≤◌, ◌<◌, ◌+◌, ℕ, zero,
 use Rattle.term_core.specs.declared.terms.Term.{Term, Node}
 use Rattle.term_core.specs.Sizes.{size, size_all, size_step}
 use Rattle.term_core.proofs.TermFolds.{fold_at_node}
-use Rattle.term_core.proofs.Sizes.{size_pos}
 
 -- a compound counts one more than its parts
 pub size_node : (f : ℕ) (t : Term) (ts us : List Term) → t ≡ Node f ts → us ≡ ts → size t ≡ size_all us + 1

@@ -6,3 +6,4 @@ pub mod Bodies
 pub mod Conjunctions
 pub mod Clauses
 pub mod Ranges
+pub mod Laws

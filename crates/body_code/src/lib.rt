@@ -6,10 +6,12 @@ mod clauses;
 mod compiling;
 mod faults;
 mod goals;
+mod laws;
 mod problems;
 mod scopes;
 
 pub use clauses::{clause_indicator, clause_problem};
 pub use compiling::compile_clause;
 pub use faults::{BodyFault, Compiled, Indicator, Problem};
+pub use laws::{bodies_law, problems_law};
 pub use scopes::{Callee, Named, Scope, Visible};
