@@ -1,12 +1,12 @@
 -- The clause that a sentence becomes is in range of each program that has what it may speak of.
-use Rattle.std.proofs.Common.{◌≡◌, ◌≤◌, ◌<◌, ℕ, Bool, true, false, List, [], ◌∷◌, length, refl, sym, ap, ◌∙◌, arith, subst, true≢false}
+use Rattle.std.proofs.Common.{◌≡◌, ◌≤◌, ◌<◌, ℕ, Bool, true, false, List, [], length, refl, sym, ap, ◌∙◌, arith, subst, true≢false}
 use Rattle.std.proofs.lemmas.Bool.Decides.{nat_tests}
 use Rattle.std.proofs.lemmas.Bool.{and_parts, and_from}
 use Rattle.std.proofs.lemmas.Option.{same_Some, none-some}
 use Rattle.std.specs.Prelude.{cond, ◌==◌, ◌&&◌, Option, Some, None}
 use Rattle.std.specs.List.{list_all, AllByRecursion}
 use Rattle.term_core.specs.declared.fixed.TheConstants.{NECK}
-use Rattle.term_core.specs.declared.terms.Term.{Term, Atom, Node, out-Term, roll-Term, roll-out-Term}
+use Rattle.term_core.specs.declared.terms.Term.{Term, out-Term, roll-Term, roll-out-Term}
 use Rattle.term_core.specs.declared.terms.Term.TheOpen as layer
 use Rattle.term_core.specs.declared.terms.Term.TheVariants.{rolls-Atom, rolls-Node}
 use Rattle.term_core.specs.Ranges.{IsInRange}
@@ -18,8 +18,8 @@ use Rattle.prog_data.specs.declared.goals.Goal.TheOpen as outer
 use Rattle.prog_data.specs.declared.goals.Goal.TheVariants.{rolls-Conj, rolls-Exit}
 use Rattle.prog_data.specs.declared.grammars.Grammar.{Grammar}
 use Rattle.prog_data.specs.declared.programs.Program.{Program}
-use Rattle.prog_data.specs.Goals.{is_exit, ends_in_exit_at, ends_in_exit, without_exit_at}
-use Rattle.prog_data.specs.Ranges.{is_name_of, is_term_of, goal_step, is_goal_of, is_body_of, is_clause_of}
+use Rattle.prog_data.specs.Goals.{is_exit, ends_in_exit_at, without_exit_at}
+use Rattle.prog_data.specs.Ranges.{is_name_of, is_term_of, goal_step, is_goal_of, is_body_of}
 use Rattle.prog_data.proofs.GoalFolds.{fold-True, fold-Conj, fold-Exit}
 use Rattle.body_code.specs.declared.faults.Compiled.{Compiled}
 use Rattle.body_code.specs.declared.faults.Indicator.{Indicator}

@@ -16,10 +16,10 @@ use Rattle.body_code.specs.declared.faults.Problem.{Problem}
 use Rattle.body_code.specs.declared.scopes.Visible.{Visible}
 use Rattle.body_code.specs.Making.{Making, made, followed, ◌>>=◌, Makes}
 use Rattle.body_code.specs.Problems.{sooner}
-use Rattle.body_code.specs.Bodies.{in_turn, joined, branches_of, named_goal, body_of}
+use Rattle.body_code.specs.Bodies.{joined, branches_of, body_of}
 use Rattle.body_code.specs.Conjunctions.{conjoined, conjoined_before}
 use Rattle.body_code.proofs.SoonerLaws.{sooner_none, sooner_assoc}
-use Rattle.body_code.proofs.Themselves.{at_variable, at_number, at_atom, at_compound, compound_is}
+use Rattle.body_code.proofs.Themselves.{at_variable, at_number, at_atom, compound_is}
 
 -- one goal more at the end of those before the last
 pub conjoined_more : (gs : List Goal) (g last : Goal) → conjoined (gs ++ g ∷ []) last ≡ conjoined gs (goal.Conj g last)

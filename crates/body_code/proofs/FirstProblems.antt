@@ -1,13 +1,12 @@
 -- Of several problems the one that comes first.
-use Rattle.std.proofs.Common.{◌≡◌, ◌≤◌, ◌<◌, ◌+◌, ℕ, suc, Bool, true, false, List, [], ◌∷◌, length, refl, ap, sym, ◌∙◌, subst, arith}
+use Rattle.std.proofs.Common.{◌≡◌, ◌≤◌, ℕ, suc, Bool, true, false, List, [], ◌∷◌, refl, ap, sym, ◌∙◌, subst, arith}
 use Rattle.std.proofs.lemmas.Bool.Decides.{nat_tests}
 use Rattle.std.proofs.lemmas.Option.{same_Some, none-some}
-use Rattle.std.specs.Prelude.{◌↔◌, cond, nat_lt, Contains, Option, Some, None, IfSome}
+use Rattle.std.specs.Prelude.{cond, nat_lt, Contains, Option, Some, None, IfSome}
 use Rattle.std.specs.List.{AllByRecursion}
 use Rattle.body_code.specs.declared.faults.Problem.{Problem}
 use Rattle.body_code.specs.Problems.{rank, sooner, first_of}
 use Rattle.body_code.specs.Laws.{IsFirst, FirstIsFound, BodiesAreOfParts}
-use Rattle.body_code.proofs.SoonerLaws.{sooner_none}
 use Rattle.body_code.proofs.Themselves.{at_variable, at_number, at_atom, at_compound}
 
 less : (n m : ℕ) → nat_lt n m ≡ true → n ≤ m

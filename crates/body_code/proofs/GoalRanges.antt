@@ -5,7 +5,7 @@ use Rattle.std.proofs.lemmas.Bool.{and_parts, and_from}
 use Rattle.std.specs.Prelude.{cond, filter, nat_lt, nat_le, ◌==◌, ◌&&◌, Option, Some, None, option_map}
 use Rattle.std.specs.List.{list_all, AllByRecursion}
 use Rattle.term_core.specs.declared.fixed.TheConstants.{ARROW}
-use Rattle.term_core.specs.declared.terms.Term.{Term, Var, Int, Atom, Node, out-Term, roll-Term, roll-out-Term}
+use Rattle.term_core.specs.declared.terms.Term.{Term, Var, Int, Atom, Node, out-Term}
 use Rattle.term_core.specs.declared.terms.Term.TheOpen as layer
 use Rattle.term_core.specs.Ranges.{has_names, IsInRange}
 use Rattle.term_core.specs.Shapes.{is_atom}
@@ -31,13 +31,12 @@ use Rattle.regtype_grammar.specs.Lists.{Listed, list_of}
 use Rattle.regtype_grammar.specs.TypeNames.{meaning as type_meant}
 use Rattle.body_code.specs.declared.scopes.Named.{Named}
 use Rattle.body_code.specs.declared.scopes.Visible.{Visible}
-use Rattle.body_code.specs.declared.scopes.Callee.{Callee}
 use Rattle.body_code.specs.Making.{Making, made, followed, ◌>>=◌}
 use Rattle.body_code.specs.Scopes.{is_named, meaning_of_preds, callee_of}
 use Rattle.body_code.specs.Bodies.{Body, type_at, element_type, call, name_in, list_name, list_test, lone_goal, in_turn, joined, chosen, either, pair_goal, control_goal, named_goal, branches_of, named_body, no_goal, body_of}
 use Rattle.body_code.specs.Ranges.{ArePredsOf}
 use Rattle.body_code.proofs.Themselves.{at_variable, at_number, at_atom, at_compound}
-use Rattle.body_code.proofs.TermRanges.{is_less, is_within, atom_name, compound_parts}
+use Rattle.body_code.proofs.TermRanges.{is_less, is_within, compound_parts}
 use Rattle.body_code.proofs.ListNames.{list_named}
 use Rattle.body_code.proofs.TableRows.{builtin_in}
 

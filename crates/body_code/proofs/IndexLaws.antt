@@ -1,13 +1,13 @@
 -- An index of predicates, one after the other.
-use Rattle.std.proofs.Common.{◌≡◌, ℕ, Bool, true, false, List, [], ◌∷◌, refl, ap, sym, ◌∙◌, arith}
+use Rattle.std.proofs.Common.{◌≡◌, ℕ, Bool, true, false, List, [], ◌∷◌, refl, ap, ◌∙◌, arith}
 use Rattle.std.proofs.lemmas.Bool.{and_parts}
 use Rattle.std.proofs.lemmas.Bool.Decides.{nat_tests}
-use Rattle.std.specs.Prelude.{cond, filter, nat_eq, ◌&&◌, ◌==◌, Option, Some, None}
+use Rattle.std.specs.Prelude.{cond, filter, nat_eq, Some}
 use Rattle.std.specs.Map.{lookup}
 use Rattle.indexmap.specs.IndexMap.{IndexMap, get}
 use Rattle.body_code.specs.declared.scopes.Named.{Named}
 use Rattle.body_code.specs.declared.scopes.Callee.{Callee}
-use Rattle.body_code.specs.declared.scopes.Callee.TheVariants.{One, Unknown, Several}
+use Rattle.body_code.specs.declared.scopes.Callee.TheVariants.{Unknown, Several}
 use Rattle.body_code.specs.Scopes.{is_named, meaning_of_preds}
 use Rattle.body_code.specs.Indexes.{same_key, one_more, found_or_unknown, looked_up}
 

@@ -1,5 +1,5 @@
 -- How large terms and their parts are: for measures alone.
-use Rattle.std.proofs.Common.{◌≡◌, ◌≤◌, ◌<◌, ◌+◌, ℕ, zero, suc, List, [], ◌∷◌, length, get_or, refl, ap, sym, ◌∙◌, arith}
+use Rattle.std.proofs.Common.{◌≡◌, ◌≤◌, ◌<◌, ◌+◌, ℕ, zero, suc, List, [], ◌∷◌, length, get_or, ap, sym, ◌∙◌, arith}
 use Rattle.term_core.specs.declared.terms.Term.{Term, Node}
 use Rattle.term_core.specs.Sizes.{size, size_all, size_step}
 use Rattle.term_core.proofs.TermFolds.{fold_at_node}

@@ -1,6 +1,6 @@
 -- What a sentence becomes, or why it becomes nothing.
 use Rattle.std.proofs.Common.{◌≡◌, ℕ, refl, ap, ◌∙◌}
-use Rattle.std.specs.Prelude.{Option, Some, None, Ok, Err, IfOk, IfErr}
+use Rattle.std.specs.Prelude.{Some, None, Ok, Err, IfOk, IfErr}
 use Rattle.std.specs.declared.result.Result.{Result}
 use Rattle.ciao_reader.specs.declared.sentences.Sentence.{Sentence}
 use Rattle.prog_data.specs.declared.grammars.Grammar.{Grammar}

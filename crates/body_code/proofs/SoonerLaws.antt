@@ -1,9 +1,9 @@
 -- Of problems the one that comes first.
-use Rattle.std.proofs.Common.{◌≡◌, List, [], ◌∷◌, refl, ap, ◌∙◌}
+use Rattle.std.proofs.Common.{◌≡◌, refl}
 use Rattle.std.specs.Prelude.{Option, Some, None}
 use Rattle.body_code.specs.declared.faults.Problem.{Problem}
 use Rattle.body_code.specs.declared.faults.Problem.TheVariants.{UnknownProperty, BadClause, Ambiguous, Undefined}
-use Rattle.body_code.specs.Problems.{sooner, first_of}
+use Rattle.body_code.specs.Problems.{sooner}
 
 pub sooner_none : (p : Option Problem) → sooner p None ≡ p
 sooner_none None = refl

@@ -17,7 +17,7 @@ use Rattle.body_code.specs.declared.faults.Indicator.{Indicator}
 use Rattle.body_code.specs.declared.faults.Problem.{Problem}
 use Rattle.body_code.specs.declared.faults.Problem.TheVariants.{UnknownProperty, BadClause, Ambiguous, Undefined}
 use Rattle.body_code.specs.declared.scopes.Visible.{Visible}
-use Rattle.body_code.specs.Making.{Making, made, followed, ◌>>=◌}
+use Rattle.body_code.specs.Making.{Making, made, followed}
 use Rattle.body_code.specs.Bodies.{body_of}
 
 -- heads

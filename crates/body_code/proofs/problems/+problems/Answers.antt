@@ -1,4 +1,4 @@
-use Rattle.std.proofs.Common.{◌≡◌, ◌≤◌, ◌+◌, List, map, get_or, drop, ap, sym, ◌∙◌, arith}
+use Rattle.std.proofs.Common.{◌≡◌, ◌≤◌, ◌+◌, List, map, drop, ap, sym, ◌∙◌, arith}
 use Rattle.std.specs.Prelude.{length}
 use Rattle.term_core.specs.declared.terms.Term.{Term}
 use Rattle.term_core.specs.Sizes.{size, size_all}
