@@ -174,20 +174,6 @@ fn builtin_text(alloc: Global, builtin: Builtin) -> Result<String, AllocError> {
     }
 }
 
-fn add_two(
-    alloc: Global,
-    left: &Goal,
-    mark: &str,
-    right: &Goal,
-    out: &mut String,
-) -> Result<(), AllocError> {
-    out.push_str("(")?;
-    add_goal(alloc, left, out)?;
-    out.push_str(mark)?;
-    add_goal(alloc, right, out)?;
-    out.push_str(")")
-}
-
 fn add_goal(alloc: Global, goal: &Goal, out: &mut String) -> Result<(), AllocError> {
     match goal {
         Goal::True => out.push_str("true"),
@@ -201,8 +187,20 @@ fn add_goal(alloc: Global, goal: &Goal, out: &mut String) -> Result<(), AllocErr
             let name = builtin_text(alloc, *builtin)?;
             out.push_str(format!(in alloc; "{}/{}", name.as_str(), terms.len())?.as_str())
         }
-        Goal::Conj(left, right) => add_two(alloc, left.get(), ", ", right.get(), out),
-        Goal::Disj(left, right) => add_two(alloc, left.get(), " ; ", right.get(), out),
+        Goal::Conj(left, right) => {
+            out.push_str("(")?;
+            add_goal(alloc, left.get(), out)?;
+            out.push_str(", ")?;
+            add_goal(alloc, right.get(), out)?;
+            out.push_str(")")
+        }
+        Goal::Disj(left, right) => {
+            out.push_str("(")?;
+            add_goal(alloc, left.get(), out)?;
+            out.push_str(" ; ")?;
+            add_goal(alloc, right.get(), out)?;
+            out.push_str(")")
+        }
         Goal::IfElse(condition, first, second) => {
             out.push_str("(")?;
             add_goal(alloc, condition.get(), out)?;
