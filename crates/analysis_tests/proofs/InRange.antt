@@ -3,7 +3,7 @@ use Rattle.std.proofs.Common.{◌≡◌, ℕ, zero, suc, ◌+◌, ◌<◌, ◌�
 use Rattle.std.proofs.lemmas.Bool.{and_from, true≢false}
 use Rattle.std.proofs.lemmas.Bool.Decides.{nat_tests}
 use Rattle.std.proofs.lemmas.Option.{none-some, same_Some}
-use Rattle.std.specs.Prelude.{nat_lt, nat_le, ◌==◌, slice_get, Some}
+use Rattle.std.specs.Prelude.{nat_lt, nat_le, ◌==◌, slice_get, slice_index_or, None, Some}
 use Rattle.std.specs.List.{list_all}
 use Rattle.term_core.specs.declared.terms.Term.{Term}
 use Rattle.term_core.specs.Ranges.{has_names}
@@ -13,6 +13,7 @@ use Rattle.prog_data.specs.declared.goals.Builtin.TheVariants as builtin
 use Rattle.prog_data.specs.declared.programs.Check.{Check}
 use Rattle.prog_data.specs.declared.programs.Pred.{Pred}
 use Rattle.prog_data.specs.declared.programs.Program.{Program}
+use Rattle.prog_data.specs.Goals.{no_pred, pred_of}
 use Rattle.prog_data.specs.Programs.{HasCallChecks}
 use Rattle.prog_data.specs.Ranges.{arity_of, is_builtin_of}
 use Rattle.analysis_tests.specs.Bodies.{is_typed}
@@ -41,6 +42,15 @@ within (y ∷ xs) (suc i) x e = let lt = within xs i x e in omega (arith, lt)
 
 pub first_all : {A : Type 0} (P : ℕ → A → Type 0) (xs : List A) (k : ℕ) → length xs ≤ k → FirstAre P xs k → (i : ℕ) (x : A) → slice_get xs i ≡ Some x → P i x
 first_all P xs k le first i x at = let lt = within xs i x at in first i x (omega (arith, le, lt)) at
+
+-- a predicate that is not there has no arguments
+pub no_arity : (program : Program) (p : ℕ) → None ≡ slice_get program.preds p → 0 ≡ (pred_of program p).arity
+no_arity program p e = ap (λ pred. pred.arity) (absent program.preds p e)
+  where
+    absent : (preds : List Pred) (p : ℕ) → None ≡ slice_get preds p → no_pred ≡ slice_index_or preds p no_pred
+    absent [] p e = refl
+    absent (x ∷ preds) zero e = cc
+    absent (x ∷ preds) (suc p) e = absent preds p e
 
 -- a built-in with as many arguments as it takes; a test of a type has one
 pub takes_args : (size : ℕ) (b : BuiltinName) (ts : List Term) → (length ts == arity_of b) ≡ true → is_typed b ≡ true → is_builtin_of size b ts ≡ true
