@@ -1,22 +1,19 @@
 -- What a test's own functions look at when they run.
-use Rattle.std.proofs.Common.{◌≡◌, ℕ, zero, suc, ◌+◌, ◌<◌, ◌≤◌, max, Bool, true, false, ◌&&◌, List, [], ◌∷◌, length, map, get_or, refl, ap, sym, ◌∙◌, subst, arith}
-use Rattle.std.proofs.lemmas.Bool.{and_from, true≢false}
+use Rattle.std.proofs.Common.{◌≡◌, ℕ, zero, suc, ◌+◌, ◌<◌, ◌≤◌, true, List, [], ◌∷◌, drop, length, get_or, refl, ap, sym, ◌∙◌, subst, arith}
 use Rattle.std.proofs.lemmas.Bool.Decides.{nat_tests}
 use Rattle.std.proofs.lemmas.Option.{none-some, same_Some}
-use Rattle.std.specs.Prelude.{nat_lt, nat_le, ◌==◌, slice_get, slice_index_or, None, Some}
+use Rattle.std.specs.Prelude.{◌==◌, nat_le, not, slice_get, slice_index_or, None, Some}
 use Rattle.std.specs.List.{list_all}
-use Rattle.term_core.specs.declared.terms.Term.{Term}
-use Rattle.term_core.specs.Ranges.{has_names}
-use Rattle.term_core.specs.Terms.{above}
-use Rattle.prog_data.specs.declared.goals.Builtin.{Builtin as BuiltinName}
-use Rattle.prog_data.specs.declared.goals.Builtin.TheVariants as builtin
-use Rattle.prog_data.specs.declared.programs.Check.{Check}
+use Rattle.prog_data.specs.declared.programs.Clause.{Clause}
 use Rattle.prog_data.specs.declared.programs.Pred.{Pred}
 use Rattle.prog_data.specs.declared.programs.Program.{Program}
+use Rattle.prog_data.specs.Conditions.{kind_of, is_calls}
 use Rattle.prog_data.specs.Goals.{no_pred, pred_of}
-use Rattle.prog_data.specs.Programs.{HasCallChecks}
-use Rattle.prog_data.specs.Ranges.{arity_of, is_builtin_of}
-use Rattle.analysis_tests.specs.Bodies.{is_typed}
+use Rattle.prog_data.specs.Programs.{conditions_of, HasCallChecks, IsPred}
+use Rattle.prog_data.specs.Ranges.{is_name_of, is_clause_of}
+
+equal : (a b : ℕ) → (a == b) ≡ true → a ≡ b
+equal a b e = grind (arith, nat_tests)
 
 -- each of the first so many is what its place asks for
 abbrev pub FirstAre : {A : Type 0} → (ℕ → A → Type 0) → List A → ℕ → Type 0
@@ -32,16 +29,20 @@ more P (y ∷ xs) zero x lt e is first (suc i) z below at = absurd (omega (arith
 more P (y ∷ xs) (suc k) x lt e is first zero z below at = first zero z (omega arith) at
 more P (y ∷ xs) (suc k) x lt e is first (suc i) z below at = more (λ n. P (suc n)) xs k x (omega (arith, lt)) e is (λ j w lw aw. first (suc j) w (omega (arith, lw)) aw) i z (omega (arith, below)) at
 
-pub first_more : {A : Type 0} (P : ℕ → A → Type 0) (xs : List A) (k : ℕ) (x : A) → k < length xs → x ≡ get_or xs k x → P k x → FirstAre P xs k → FirstAre P xs (k + 1)
-first_more P xs k x lt e is first i z below at = more P xs k x lt e is first i z (omega (arith, below)) at
+pub first_more : {A : Type 0} (P : ℕ → A → Type 0) (items xs : List A) (k : ℕ) (x : A) → items ≡ xs → k < length items → x ≡ get_or items k x → P k x → FirstAre P xs k → FirstAre P xs (k + 1)
+first_more P items xs k x same lt e is first i z below at =
+    more P xs k x (subst (λ l. k < length l) same lt) (subst (λ l. x ≡ get_or l k x) same e) is first i z (omega (arith, below)) at
 
 within : {A : Type 0} (xs : List A) (i : ℕ) (x : A) → slice_get xs i ≡ Some x → i < length xs
 within [] i x e = absurd (none-some x e)
 within (y ∷ xs) zero x e = omega arith
 within (y ∷ xs) (suc i) x e = let lt = within xs i x e in omega (arith, lt)
 
-pub first_all : {A : Type 0} (P : ℕ → A → Type 0) (xs : List A) (k : ℕ) → length xs ≤ k → FirstAre P xs k → (i : ℕ) (x : A) → slice_get xs i ≡ Some x → P i x
-first_all P xs k le first i x at = let lt = within xs i x at in first i x (omega (arith, le, lt)) at
+pub first_all : {A : Type 0} (P : ℕ → A → Type 0) (items xs : List A) (k : ℕ) → items ≡ xs → length items ≤ k → FirstAre P xs k → (i : ℕ) (x : A) → slice_get xs i ≡ Some x → P i x
+first_all P items xs k same le first i x at =
+    let below = subst (λ l. length l ≤ k) same le in
+    let lt = within xs i x at in
+    first i x (omega (arith, below, lt)) at
 
 -- a predicate that is not there has no arguments
 pub no_arity : (program : Program) (p : ℕ) → None ≡ slice_get program.preds p → 0 ≡ (pred_of program p).arity
@@ -52,35 +53,30 @@ no_arity program p e = ap (λ pred. pred.arity) (absent program.preds p e)
     absent (x ∷ preds) zero e = cc
     absent (x ∷ preds) (suc p) e = absent preds p e
 
--- a built-in with as many arguments as it takes; a test of a type has one
-pub takes_args : (size : ℕ) (b : BuiltinName) (ts : List Term) → (length ts == arity_of b) ≡ true → is_typed b ≡ true → is_builtin_of size b ts ≡ true
-takes_args size builtin.Unify ts e typed = e
-takes_args size builtin.NotUnify ts e typed = e
-takes_args size builtin.Same ts e typed = e
-takes_args size builtin.NotSame ts e typed = e
-takes_args size builtin.Is ts e typed = e
-takes_args size builtin.Less ts e typed = e
-takes_args size builtin.Greater ts e typed = e
-takes_args size builtin.LessEq ts e typed = e
-takes_args size builtin.GreaterEq ts e typed = e
-takes_args size builtin.NumEq ts e typed = e
-takes_args size builtin.NumNotEq ts e typed = e
-takes_args size builtin.Write ts e typed = e
-takes_args size builtin.Writeq ts e typed = e
-takes_args size builtin.Nl ts e typed = e
-takes_args size builtin.IsVar ts e typed = e
-takes_args size builtin.IsNonvar ts e typed = e
-takes_args size builtin.Integer ts e typed = e
-takes_args size builtin.Atom ts e typed = e
-takes_args size (builtin.Belongs n) [] e typed = absurd (true≢false (sym e))
-takes_args size (builtin.Belongs n) (t ∷ []) e typed = typed
-takes_args size (builtin.Belongs n) (t ∷ u ∷ ts) e typed = absurd (true≢false (sym e))
-takes_args size builtin.IsGround ts e typed = e
+none_there : {A : Type 0} (xs : List A) → (length xs == 0) ≡ true → xs ≡ []
+none_there [] e = refl
+none_there (x ∷ xs) e = let none = equal (suc (length xs)) 0 e in absurd (omega (arith, none))
 
 -- a predicate without call checks
-pub no_checks : (program : Program) (pred : Pred) → pred.call_checks ≡ [] → HasCallChecks program pred
-no_checks program pred e = subst (λ checks. HasCallChecks program (record pred { call_checks = checks })) (sym e) (record { kinds = refl; one_calls = omega arith; notes_rise = refl; one_mark = omega arith; marks_rise = refl })
+pub no_checks : (pred : Pred) (count : ℕ) → count ≡ length pred.call_checks → (count == 0) ≡ true → (program : Program) → HasCallChecks program pred
+no_checks pred count same e program =
+    subst (λ checks. HasCallChecks program (record pred { call_checks = checks })) (sym (none_there pred.call_checks (subst (λ n. (n == 0) ≡ true) same e)))
+    (record { kinds = refl; one_calls = omega arith; notes_rise = refl; one_mark = omega arith; marks_rise = refl })
 
-pub none_there : {A : Type 0} (xs : List A) → length xs ≡ 0 → xs ≡ []
-none_there [] e = refl
-none_there (x ∷ xs) e = absurd (omega (arith, e))
+at_most : (a b : ℕ) → nat_le a b ≡ true → a ≤ b
+at_most a b e = grind (arith, nat_tests)
+
+-- a predicate of which all is found, each list being its own
+pub pred_found : (program : Program) (p : ℕ) (pred : Pred) (clauses : List Clause) (numbers others : List ℕ) → clauses ≡ pred.clauses → numbers ≡ pred.conds → others ≡ pred.conds → is_name_of program pred.«module» ≡ true →
+    is_name_of program pred.name ≡ true → nat_le pred.arity 255 ≡ true → list_all (is_clause_of program pred.arity) clauses ≡ true → numbers ≡ conditions_of program p →
+    list_all (λ c. not (is_calls (kind_of program c))) (drop 1 others) ≡ true → ((other : Program) → HasCallChecks other pred) → IsPred program p pred
+pred_found program p pred clauses numbers others same_clauses same_numbers same_others inside named few fit own first unchecked =
+    record {
+      «module» = inside;
+      name = named;
+      arity = at_most pred.arity 255 few;
+      clauses = subst (λ cs. list_all (is_clause_of program pred.arity) cs ≡ true) same_clauses fit;
+      conds = sym same_numbers ∙ own;
+      calls_first = subst (λ cs. list_all (λ c. not (is_calls (kind_of program c))) (drop 1 cs) ≡ true) same_others first;
+      call_checks = unchecked program;
+    }

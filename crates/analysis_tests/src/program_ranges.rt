@@ -3,9 +3,10 @@ ghost use Rattle.std.specs.Prelude.{◌≡◌, ◌==◌, ℕ, true, not, [], ◌
 ghost use Rattle.std.specs.List.{list_all};
 ghost use Rattle.prog_data.specs.declared.conditions.Cond.{Cond as CondValue};
 ghost use Rattle.prog_data.specs.declared.programs.Pred.{Pred as PredValue};
+ghost use Rattle.prog_data.specs.declared.programs.Program.{Program as ProgramValue};
 ghost use Rattle.prog_data.specs.Conditions.{kind_of, is_calls};
 ghost use Rattle.prog_data.specs.GrammarRange.{IsGrammar};
-ghost use Rattle.prog_data.specs.Programs.{conditions_of, IsPred, IsCond, is_named_rule, is_entry_of, IsProgram};
+ghost use Rattle.prog_data.specs.Programs.{conditions_of, HasCallChecks, IsPred, IsCond, is_named_rule, is_entry_of, IsProgram};
 ghost use Rattle.analysis_tests.specs.Outlines.{IsOutline};
 
 use crate::conditions::{are_props, is_kind};
@@ -60,7 +61,7 @@ fn is_calls(program: &Program, cond: u64) -> bool
 {
     match program.conds.get(cond as usize) {
         None => false,
-        Some(found) => match found.kind {
+        Some(found) => match &found.kind {
             CondKind::Calls(_) => true,
             CondKind::Success(_, _) => false,
             CondKind::Comp(_, _) => false,
@@ -75,6 +76,14 @@ fn calls_come_first(program: &Program, numbers: &[u64]) -> Result<(), Refused>
     for place in 1..numbers.len() {
         ensure(!is_calls(program, numbers[place]))?;
     }
+    Ok(())
+}
+
+// A predicate without call checks.
+fn checks_in_range(pred: &Pred) -> Result<(), Refused>
+    ensures { OnOk result ((program : ProgramValue) → HasCallChecks program pred.now) }
+{
+    ensure(pred.call_checks.len() == 0)?;
     Ok(())
 }
 
@@ -93,7 +102,7 @@ fn one_pred_in_range(
     clauses_in_range(program, pred.arity, pred.clauses.as_slice())?;
     numbers_in_range(alloc, program, number, pred.conds.as_slice())?;
     calls_come_first(program, pred.conds.as_slice())?;
-    ensure(pred.call_checks.len() == 0)?;
+    checks_in_range(pred)?;
     Ok(())
 }
 

@@ -1,4 +1,4 @@
-use Rattle.std.proofs.Common.{◌≡◌, ◌×◌, ◌≤◌, drop, not}
+use Rattle.std.proofs.Common.{◌≡◌, drop, not}
 use Rattle.std.specs.List.{list_all}
 use Rattle.prog_data.specs.Conditions.{kind_of, is_calls}
 use Rattle.analysis_tests.proofs.program_ranges.calls_come_first.Given as goal
