@@ -75,11 +75,7 @@ fn grammar_of(alloc: Global, types: &[&[Leaf]]) -> Result<Grammar, NoMemory>
 }
 
 // The sentences of a text; none where it is not read.
-fn sentences_of(
-    alloc: Global,
-    names: &mut Names,
-    text: &str,
-) -> Result<Items<Sentence>, NoMemory> {
+fn sentences_of(alloc: Global, names: &mut Names, text: &str) -> Result<Items<Sentence>, NoMemory> {
     match read_sentences(alloc, names, text.as_bytes()) {
         Ok(source) => Ok(source.sentences),
         Err(ReadFault::NoMemory) => Err(NoMemory),

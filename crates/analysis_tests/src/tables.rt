@@ -175,10 +175,7 @@ const CONDITIONS: [Case; 9] = [
         },
         rows: &[
             (Some(&[1825, ANY]), Some(&[1825, 1825])),
-            (
-                Some(&[1825, INT, ANY, ANY]),
-                Some(&[1825, INT, 1825, 1825]),
-            ),
+            (Some(&[1825, INT, ANY, ANY]), Some(&[1825, INT, 1825, 1825])),
             (Some(&[1825, 1953, ANY]), Some(&[1825, 1953, 1953])),
         ],
         statuses: &[CHECKED, CHECKED, CHECKED, CHECKED],
