@@ -8,6 +8,8 @@ mod builtins;
 #[cfg(test)]
 mod conditions;
 #[cfg(test)]
+mod goal_ranges;
+#[cfg(test)]
 mod grammars;
 #[cfg(test)]
 mod long_lists;
@@ -17,8 +19,6 @@ mod name_relations;
 mod program_ranges;
 #[cfg(test)]
 mod programs;
-#[cfg(test)]
-mod ranges;
 #[cfg(test)]
 mod small_programs;
 #[cfg(test)]

@@ -10,8 +10,10 @@ ghost use Rattle.prog_data.specs.Programs.{conditions_of, HasCallChecks, IsPred,
 ghost use Rattle.analysis_tests.specs.Outlines.{IsOutline};
 
 use crate::conditions::{are_props, is_kind};
+use crate::goal_ranges::{
+    Refused, arity_of, clauses_in_range, ensure, name_in_range, pred_in_range,
+};
 use crate::grammars::all_within;
-use crate::ranges::{Refused, arity_of, clauses_in_range, ensure, name_in_range, pred_in_range};
 use prog_data::{Cond, CondKind, Entry, Pred, Program, Rule};
 use sqlite_items::Items;
 use std::alloc::Global;

@@ -3,9 +3,9 @@
 ghost use Rattle.prog_data.specs.Programs.{IsProgram};
 
 use crate::conditions::Asked;
+use crate::goal_ranges::Refused;
 use crate::program_ranges::program_in_range;
 use crate::programs::{Leaf, Plan, program_of};
-use crate::ranges::Refused;
 use crate::statuses::are_same;
 use crate::transfer::word;
 use discharger::statuses;
