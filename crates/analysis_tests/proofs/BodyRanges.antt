@@ -1,7 +1,7 @@
 -- The goals of the tests are in range.
 use Rattle.std.proofs.Common.{◌≡◌, ℕ, zero, suc, ◌+◌, Bool, true, false, ◌&&◌, List, [], ◌∷◌, length, refl, ap, sym, ◌∙◌, arith}
 use Rattle.std.proofs.lemmas.Bool.{and_from}
-use Rattle.std.specs.Prelude.{nat_le, slice_get, slice_index_or, None}
+use Rattle.std.specs.Prelude.{◌==◌, nat_le, if◌then◌else◌, slice_get, slice_index_or, None}
 use Rattle.std.specs.List.{list_all}
 use Rattle.term_core.specs.declared.terms.Term.{Term}
 use Rattle.term_core.specs.declared.terms.Term as term
@@ -72,10 +72,14 @@ takes builtin.Atom e = refl
 takes (builtin.Belongs n) e = e
 takes builtin.IsGround e = refl
 
+-- whatever the tests on their number say
+by_tests : (c d : Bool) → list_all (is_term_of empty_program 2) (if c then [] else (if d then term.Var 0 ∷ [] else term.Var 0 ∷ term.Var 1 ∷ [])) ≡ true
+by_tests true d = refl
+by_tests false true = ap (λ b. b && true) (term_fits empty_program 2 0 refl)
+by_tests false false = ap (λ b. b && (is_term_of empty_program 2 (term.Var 1) && true)) (term_fits empty_program 2 0 refl) ∙ ap (λ b. b && true) (term_fits empty_program 2 1 refl)
+
 variables_fit : (n : ℕ) → list_all (is_term_of empty_program 2) (first_vars n) ≡ true
-variables_fit zero = refl
-variables_fit (suc zero) = ap (λ b. b && true) (term_fits empty_program 2 0 refl)
-variables_fit (suc (suc n)) = ap (λ b. b && (is_term_of empty_program 2 (term.Var 1) && true)) (term_fits empty_program 2 0 refl) ∙ ap (λ b. b && true) (term_fits empty_program 2 1 refl)
+variables_fit n = by_tests (n == 0) (n == 1)
 
 pub builtins_fit : (b : BuiltinName) → is_typed b ≡ true → is_body_of empty_program 2 (builtin_of b) ≡ true
 builtins_fit b e = goal_body empty_program 2 (builtin_of b) (builtin_fits empty_program 2 b (first_vars (arity_of b)) (takes b e) (variables_fit (arity_of b)))

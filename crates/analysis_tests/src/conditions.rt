@@ -1,9 +1,9 @@
-// Conditions as constants, and whether conditions are in range.
+// Conditions as constants, whether conditions are in range, and statuses.
 ghost use Rattle.std.specs.Prelude.{◌≡◌};
 ghost use Rattle.std.specs.List.{list_all};
 ghost use Rattle.prog_data.specs.Ranges.{is_prop_of, is_kind_of};
 
-use prog_data::{CompProp, CondKind, Prop};
+use prog_data::{CompProp, CondKind, Prop, Status};
 use sqlite_items::Items;
 use std::alloc::Global;
 use term_core::NoMemory;
@@ -86,4 +86,29 @@ pub(crate) fn is_kind(arity: u64, size: u64, kind: &CondKind) -> bool
         }
         CondKind::Comp(pre, _) => are_props(arity, size, pre.as_slice()),
     }
+}
+
+fn number(status: Status) -> u64 {
+    match status {
+        Status::Checked => 0,
+        Status::Check => 1,
+        Status::False => 2,
+    }
+}
+
+pub(crate) fn are_same(found: &[Status], wanted: &[Status]) -> bool {
+    if found.len() != wanted.len() {
+        return false;
+    }
+    for (place, status) in found.iter().enumerate() {
+        match wanted.get(place) {
+            Some(other) => {
+                if number(*status) != number(*other) {
+                    return false;
+                }
+            }
+            None => return false,
+        }
+    }
+    true
 }

@@ -29,3 +29,5 @@ mod tables;
 mod transfer;
 #[cfg(test)]
 mod values;
+#[cfg(test)]
+mod words;

@@ -5,7 +5,7 @@ ghost use Rattle.prog_data.specs.Ranges.{is_kind_of};
 ghost use Rattle.name_order.specs.Relations.{order};
 ghost use Rattle.goal_transfer.specs.Tables.{row_seen, IsRow};
 
-use crate::conditions::{Asked, is_kind, kind_of};
+use crate::conditions::{Asked, are_same, is_kind, kind_of};
 use crate::small_programs::{
     bare, bare_law, chain, chain_table, fact, fact_table, of_type, request_law, row, two_rows,
 };
@@ -226,31 +226,6 @@ fn statuses_by(
     let program = bare(alloc, first, second)?;
     let table = two_rows(alloc, first_row, second_row)?;
     statuses(alloc, &program, &table)
-}
-
-fn number(status: Status) -> u64 {
-    match status {
-        Status::Checked => 0,
-        Status::Check => 1,
-        Status::False => 2,
-    }
-}
-
-pub(crate) fn are_same(found: &[Status], wanted: &[Status]) -> bool {
-    if found.len() != wanted.len() {
-        return false;
-    }
-    for (place, status) in found.iter().enumerate() {
-        match wanted.get(place) {
-            Some(other) => {
-                if number(*status) != number(*other) {
-                    return false;
-                }
-            }
-            None => return false,
-        }
-    }
-    true
 }
 
 // Whether the condition has this status; a second predicate, which is called, has the condition that it does not fail.

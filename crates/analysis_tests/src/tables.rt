@@ -2,12 +2,11 @@
 // A value is written by the bits of its names, as in the tests of transfer; 1024 is the first name behind the basic ones.
 ghost use Rattle.prog_data.specs.Programs.{IsProgram};
 
-use crate::conditions::Asked;
+use crate::conditions::{Asked, are_same};
 use crate::goal_ranges::Refused;
 use crate::program_ranges::program_in_range;
 use crate::programs::{Leaf, Plan, program_of};
-use crate::statuses::are_same;
-use crate::transfer::word;
+use crate::words::word;
 use discharger::statuses;
 use fixpoint_analyser::analyse;
 use prog_data::{CompProp, Program, Prop, Row, Status, Table, Value};

@@ -12,6 +12,7 @@ ghost use Rattle.analysis_tests.specs.Bodies.{first_vars, is_typed, builtin_of};
 use crate::bodies::{body_law, control};
 use crate::builtins::{count, is_typed};
 use crate::small_programs::{chain, chain_table, fact_table, of_type, program_of, request_law};
+use crate::words::word_at;
 use goal_transfer::{
     State, all_implied, run_clause, run_goal, some_excluded, types_of, unify_values,
 };
@@ -21,22 +22,6 @@ use sqlite_items::Items;
 use std::alloc::Global;
 use std::test::Fail;
 use term_core::{CELL, NIL, NoMemory, Term};
-
-// The names of a value as bits.
-pub(crate) fn word(value: &Value) -> u64 {
-    match &value.names {
-        None => 0,
-        Some(words) => words[0],
-    }
-}
-
-// The names of the value in a place.
-fn word_at(values: &[Value], place: usize) -> u64 {
-    match values.get(place) {
-        None => 0,
-        Some(value) => word(value),
-    }
-}
 
 // The names of two variables.
 fn words_of(state: &State) -> (u64, u64) {
