@@ -1,7 +1,7 @@
 -- The goals of the tests are in range.
 use Rattle.std.proofs.Common.{◌≡◌, ℕ, zero, suc, ◌+◌, Bool, true, false, ◌&&◌, List, [], ◌∷◌, length, refl, ap, sym, ◌∙◌, arith}
 use Rattle.std.proofs.lemmas.Bool.{and_from}
-use Rattle.std.specs.Prelude.{nat_le, if◌then◌else◌, slice_get, slice_index_or, None}
+use Rattle.std.specs.Prelude.{◌==◌, nat_le, if◌then◌else◌, slice_get, slice_index_or, None}
 use Rattle.std.specs.List.{list_all}
 use Rattle.term_core.specs.declared.terms.Term.{Term}
 use Rattle.term_core.specs.declared.terms.Term as term
@@ -10,43 +10,21 @@ use Rattle.term_core.specs.Terms.{above_step}
 use Rattle.term_core.proofs.TermFolds.{fold-Var}
 use Rattle.prog_data.specs.declared.goals.Builtin.{Builtin as BuiltinName}
 use Rattle.prog_data.specs.declared.goals.Builtin.TheVariants as builtin
-use Rattle.prog_data.specs.declared.goals.Goal.{Goal, out-Goal, roll-Goal, roll-out-Goal}
+use Rattle.prog_data.specs.declared.goals.Goal.{Goal}
 use Rattle.prog_data.specs.declared.goals.Goal as goal
-use Rattle.prog_data.specs.declared.goals.Goal.TheOpen as layer
-use Rattle.prog_data.specs.declared.goals.Goal.TheVariants.{rolls-Conj}
 use Rattle.prog_data.specs.declared.programs.Program.{Program}
 use Rattle.prog_data.specs.declared.programs.Pred.{Pred}
-use Rattle.prog_data.specs.Goals.{no_pred, pred_of, is_exit, without_exit_at}
+use Rattle.prog_data.specs.Goals.{no_pred, pred_of}
 use Rattle.prog_data.specs.Programs.{IsPred, IsCond, IsProgram}
 use Rattle.prog_data.specs.RangeLaws.{empty_program}
 use Rattle.prog_data.specs.Ranges.{arity_of, is_term_of, is_builtin_of, is_call_of, goal_step, is_goal_of, is_body_of, is_clause_of}
 use Rattle.prog_data.proofs.GoalFolds.{fold-True, fold-Fail, fold-Cut, fold-Call, fold-Builtin, fold-Conj, fold-Disj, fold-IfElse, fold-Not}
-use Rattle.goal_transfer.proofs.Lengths.{both}
 use Rattle.analysis_tests.specs.Small.{clause_of, pred_with, cond_of}
 use Rattle.analysis_tests.specs.Bodies.{first_vars, is_typed, builtin_of, integer, atom, call, clauses, nnegint_success, control}
+use Rattle.analysis_tests.proofs.GoalBodies.{goal_body}
 use Rattle.analysis_tests.proofs.Ranges.{at_one, clause_fits, pred_fits, cond_fits, program_fits}
 
 module _ (program : Program) (vars : ℕ) where
-  -- a goal in range is a body in range
-  goal_body : (g : Goal) → is_goal_of program vars g ≡ true → is_body_of program vars g ≡ true
-  goal_body g e = by_layer (out-Goal g) (roll-out-Goal g)
-    where
-      by_test : (a b : Goal) → g ≡ goal.Conj a b → (c : Bool) → is_goal_of program vars (if c then a else g) ≡ true
-      by_test a b is true = (both (is_goal_of program vars a) (is_goal_of program vars b) (sym (fold-Conj Bool (goal_step program vars) a b) ∙ sym (ap (is_goal_of program vars) is) ∙ e)).0
-      by_test a b is false = e
-
-      by_layer : (x : layer.Goal-F Goal) → roll-Goal x ≡ g → is_goal_of program vars (without_exit_at g x) ≡ true
-      by_layer layer.Exit r = fold-True Bool (goal_step program vars)
-      by_layer (layer.Conj a b) r = by_test a b (sym r ∙ rolls-Conj a b) (is_exit (out-Goal b))
-      by_layer layer.True r = e
-      by_layer layer.Fail r = e
-      by_layer layer.Cut r = e
-      by_layer (layer.Call p ts) r = e
-      by_layer (layer.Builtin b ts) r = e
-      by_layer (layer.Disj a b) r = e
-      by_layer (layer.IfElse c a b) r = e
-      by_layer (layer.Not a) r = e
-
   term_fits : (v : ℕ) → nat_le (v + 1) vars ≡ true → is_term_of program vars (term.Var v) ≡ true
   term_fits v le = (λ i. fold-Var Bool (has_names_step (length program.names)) v i && nat_le (fold-Var ℕ above_step v i) vars) ∙ le
 
@@ -94,10 +72,14 @@ takes builtin.Atom e = refl
 takes (builtin.Belongs n) e = e
 takes builtin.IsGround e = refl
 
+-- whatever the tests on their number say
+by_tests : (c d : Bool) → list_all (is_term_of empty_program 2) (if c then [] else (if d then term.Var 0 ∷ [] else term.Var 0 ∷ term.Var 1 ∷ [])) ≡ true
+by_tests true d = refl
+by_tests false true = ap (λ b. b && true) (term_fits empty_program 2 0 refl)
+by_tests false false = ap (λ b. b && (is_term_of empty_program 2 (term.Var 1) && true)) (term_fits empty_program 2 0 refl) ∙ ap (λ b. b && true) (term_fits empty_program 2 1 refl)
+
 variables_fit : (n : ℕ) → list_all (is_term_of empty_program 2) (first_vars n) ≡ true
-variables_fit zero = refl
-variables_fit (suc zero) = ap (λ b. b && true) (term_fits empty_program 2 0 refl)
-variables_fit (suc (suc n)) = ap (λ b. b && (is_term_of empty_program 2 (term.Var 1) && true)) (term_fits empty_program 2 0 refl) ∙ ap (λ b. b && true) (term_fits empty_program 2 1 refl)
+variables_fit n = by_tests (n == 0) (n == 1)
 
 pub builtins_fit : (b : BuiltinName) → is_typed b ≡ true → is_body_of empty_program 2 (builtin_of b) ≡ true
 builtins_fit b e = goal_body empty_program 2 (builtin_of b) (builtin_fits empty_program 2 b (first_vars (arity_of b)) (takes b e) (variables_fit (arity_of b)))

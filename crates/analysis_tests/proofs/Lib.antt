@@ -1,3 +1,5 @@
 mod Ranges
 mod ClosedRows
+mod GoalBodies
 mod BodyRanges
+mod InRange

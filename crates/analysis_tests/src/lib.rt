@@ -4,16 +4,30 @@
 #[cfg(test)]
 mod bodies;
 #[cfg(test)]
+mod builtins;
+#[cfg(test)]
+mod conditions;
+#[cfg(test)]
+mod goal_ranges;
+#[cfg(test)]
 mod grammars;
 #[cfg(test)]
 mod long_lists;
 #[cfg(test)]
 mod name_relations;
 #[cfg(test)]
+mod program_ranges;
+#[cfg(test)]
+mod programs;
+#[cfg(test)]
 mod small_programs;
 #[cfg(test)]
 mod statuses;
 #[cfg(test)]
+mod tables;
+#[cfg(test)]
 mod transfer;
 #[cfg(test)]
 mod values;
+#[cfg(test)]
+mod words;

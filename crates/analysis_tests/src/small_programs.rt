@@ -217,6 +217,15 @@ pub(crate) fn row(alloc: Global, entry: Value, exit: Value) -> Result<Row, NoMem
     })
 }
 
+// A table of one row.
+fn one_row(alloc: Global, first: Row) -> Result<Table, NoMemory>
+    ensures { IfOk result (λ t. table_seen t ≡ row_seen first ∷ []) }
+{
+    let mut rows = Items::new(alloc);
+    rows.push(first)?;
+    Ok(Table { rows })
+}
+
 // A table of two rows.
 pub(crate) fn two_rows(alloc: Global, first: Row, second: Row) -> Result<Table, NoMemory>
     ensures { IfOk result (λ t. table_seen t ≡ row_seen first ∷ row_seen second ∷ []) }
@@ -245,7 +254,6 @@ pub(crate) fn fact_table(alloc: Global, rel: &Relations) -> Result<Table, NoMemo
     ensures { IfOk result (λ t. table_seen t ≡ fact_rows) }
 {
     let any = of_name(rel, 0);
-    let mut rows = Items::new(alloc);
-    rows.push(row(alloc, any, any)?)?;
-    Ok(Table { rows })
+    let first = row(alloc, any, any)?;
+    one_row(alloc, first)
 }

@@ -1,11 +1,11 @@
 // The status of each condition of small programs.
 ghost use Rattle.std.specs.Prelude.{◌≡◌, true, IfOk};
-ghost use Rattle.std.specs.List.{list_all};
 ghost use Rattle.prog_data.specs.BasicNames.{basic_grammar};
-ghost use Rattle.prog_data.specs.Ranges.{is_prop_of, is_kind_of};
+ghost use Rattle.prog_data.specs.Ranges.{is_kind_of};
 ghost use Rattle.name_order.specs.Relations.{order};
 ghost use Rattle.goal_transfer.specs.Tables.{row_seen, IsRow};
 
+use crate::conditions::{Asked, are_same, is_kind, kind_of};
 use crate::small_programs::{
     bare, bare_law, chain, chain_table, fact, fact_table, of_type, request_law, row, two_rows,
 };
@@ -16,13 +16,6 @@ use sqlite_items::Items;
 use std::alloc::Global;
 use std::test::Fail;
 use term_core::NoMemory;
-
-// A condition.
-enum Asked {
-    Calls(&'static [&'static [Prop]]),
-    Success(&'static [Prop], &'static [Prop]),
-    Comp(CompProp),
-}
 
 // What is known of a predicate: not reached, called with terms of a type, or also left with terms of a type.
 enum Known {
@@ -203,78 +196,6 @@ const COMP: [Case; 9] = [
     ),
 ];
 
-// Whether a property is one of the one argument, of a basic type.
-fn is_prop(prop: &Prop) -> bool
-    ensures { result ≡ is_prop_of 1 10 prop.now }
-{
-    match prop {
-        Prop::Belongs(argument, name) => {
-            if *argument >= 1 {
-                return false;
-            }
-            *name < 10
-        }
-        Prop::IsVar(argument) => *argument < 1,
-        Prop::IsNonvar(argument) => *argument < 1,
-        Prop::IsGround(argument) => *argument < 1,
-    }
-}
-
-fn are_props(props: &[Prop]) -> bool
-    ensures { result ≡ list_all (is_prop_of 1 10) props.now }
-{
-    for prop in props {
-        if !is_prop(prop) {
-            return false;
-        }
-    }
-    true
-}
-
-fn are_disjuncts(disjuncts: &[Items<Prop>]) -> bool
-    ensures { result ≡ list_all (list_all (is_prop_of 1 10)) disjuncts.now }
-{
-    for disjunct in disjuncts {
-        if !are_props(disjunct.as_slice()) {
-            return false;
-        }
-    }
-    true
-}
-
-fn is_kind(kind: &CondKind) -> bool
-    ensures { result ≡ is_kind_of 1 10 kind.now }
-{
-    match kind {
-        CondKind::Calls(disjuncts) => are_disjuncts(disjuncts.as_slice()),
-        CondKind::Success(pre, post) => {
-            if !are_props(pre.as_slice()) {
-                return false;
-            }
-            are_props(post.as_slice())
-        }
-        CondKind::Comp(pre, _) => are_props(pre.as_slice()),
-    }
-}
-
-fn kind_of(alloc: Global, asked: &Asked) -> Result<CondKind, NoMemory> {
-    match asked {
-        Asked::Calls(disjuncts) => {
-            let mut made = Items::new(alloc);
-            for disjunct in *disjuncts {
-                made.push(Items::from_slice(alloc, disjunct)?)?;
-            }
-            Ok(CondKind::Calls(made))
-        }
-        Asked::Success(pre, post) => {
-            let first = Items::from_slice(alloc, pre)?;
-            let second = Items::from_slice(alloc, post)?;
-            Ok(CondKind::Success(first, second))
-        }
-        Asked::Comp(property) => Ok(CondKind::Comp(Items::new(alloc), *property)),
-    }
-}
-
 // The row of a predicate.
 fn row_of(alloc: Global, rel: &Relations, known: &Known) -> Result<Row, NoMemory>
     ensures { IfOk result (λ r. IsRow (order rel.now) 1 (row_seen r)) }
@@ -307,38 +228,13 @@ fn statuses_by(
     statuses(alloc, &program, &table)
 }
 
-fn number(status: Status) -> u64 {
-    match status {
-        Status::Checked => 0,
-        Status::Check => 1,
-        Status::False => 2,
-    }
-}
-
-fn are_same(found: &[Status], wanted: &[Status]) -> bool {
-    if found.len() != wanted.len() {
-        return false;
-    }
-    for (place, status) in found.iter().enumerate() {
-        match wanted.get(place) {
-            Some(other) => {
-                if number(*status) != number(*other) {
-                    return false;
-                }
-            }
-            None => return false,
-        }
-    }
-    true
-}
-
 // Whether the condition has this status; a second predicate, which is called, has the condition that it does not fail.
 fn is_case(alloc: Global, rel: &Relations, case: &Case) -> Result<bool, NoMemory>
     requires { rel.now ≡ basic_grammar }
 {
     let first = kind_of(alloc, &case.0)?;
     let second = CondKind::Comp(Items::new(alloc), CompProp::NotFails);
-    if !is_kind(&first) {
+    if !is_kind(1, 10, &first) {
         return Ok(false);
     }
     let row = row_of(alloc, rel, &case.1)?;

@@ -5,12 +5,14 @@ ghost use Rattle.term_core.specs.Terms.{above};
 ghost use Rattle.prog_data.specs.Goals.{pred_of};
 ghost use Rattle.prog_data.specs.Programs.{IsProgram};
 ghost use Rattle.prog_data.specs.RangeLaws.{empty_program};
-ghost use Rattle.prog_data.specs.Ranges.{arity_of, is_body_of};
+ghost use Rattle.prog_data.specs.Ranges.{is_body_of};
 ghost use Rattle.goal_transfer.specs.Range.{is_named};
 ghost use Rattle.analysis_tests.specs.Bodies.{first_vars, is_typed, builtin_of};
 
 use crate::bodies::{body_law, control};
+use crate::builtins::{count, is_typed};
 use crate::small_programs::{chain, chain_table, fact_table, of_type, program_of, request_law};
+use crate::words::word_at;
 use goal_transfer::{
     State, all_implied, run_clause, run_goal, some_excluded, types_of, unify_values,
 };
@@ -20,22 +22,6 @@ use sqlite_items::Items;
 use std::alloc::Global;
 use std::test::Fail;
 use term_core::{CELL, NIL, NoMemory, Term};
-
-// The names of a value as bits.
-fn word(value: &Value) -> u64 {
-    match &value.names {
-        None => 0,
-        Some(words) => words[0],
-    }
-}
-
-// The names of the value in a place.
-fn word_at(values: &[Value], place: usize) -> u64 {
-    match values.get(place) {
-        None => 0,
-        Some(value) => word(value),
-    }
-}
 
 // The names of two variables.
 fn words_of(state: &State) -> (u64, u64) {
@@ -233,48 +219,6 @@ const BUILTINS: [(Builtin, u64, u64); 20] = [
     (Builtin::Belongs(9), 769, 1),
     (Builtin::IsGround, 33, 1),
 ];
-
-// How many arguments a built-in has.
-fn count(builtin: Builtin) -> u64
-    ensures { result ≡ arity_of builtin }
-{
-    match builtin {
-        Builtin::Nl => 0,
-        Builtin::Integer => 1,
-        Builtin::Atom => 1,
-        Builtin::Write => 1,
-        Builtin::Writeq => 1,
-        Builtin::Belongs(_) => 1,
-        Builtin::IsVar => 1,
-        Builtin::IsNonvar => 1,
-        Builtin::IsGround => 1,
-        Builtin::Unify => 2,
-        Builtin::NotUnify => 2,
-        Builtin::Same => 2,
-        Builtin::NotSame => 2,
-        Builtin::Is => 2,
-        Builtin::Less => 2,
-        Builtin::Greater => 2,
-        Builtin::LessEq => 2,
-        Builtin::GreaterEq => 2,
-        Builtin::NumEq => 2,
-        Builtin::NumNotEq => 2,
-    }
-}
-
-// Whether the type that a built-in tests, if it tests one, is a basic one.
-fn is_typed(builtin: Builtin) -> bool
-    ensures { result ≡ is_typed builtin }
-{
-    match builtin {
-        Builtin::Belongs(name) => name < 10,
-        Builtin::Nl | Builtin::Integer | Builtin::Atom | Builtin::Write | Builtin::Writeq => true,
-        Builtin::IsVar | Builtin::IsNonvar | Builtin::IsGround => true,
-        Builtin::Unify | Builtin::NotUnify | Builtin::Same | Builtin::NotSame => true,
-        Builtin::Is | Builtin::Less | Builtin::Greater | Builtin::LessEq => true,
-        Builtin::GreaterEq | Builtin::NumEq | Builtin::NumNotEq => true,
-    }
-}
 
 // No variable, one, or two.
 fn first_vars(alloc: Global, count: u64) -> Result<Items<Term>, NoMemory>
