@@ -1,0 +1,4 @@
+mod Places
+mod Loops
+mod Sets
+mod BuiltinNames
