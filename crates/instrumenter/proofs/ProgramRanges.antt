@@ -102,8 +102,8 @@ module _ (ranges : RangesAreKept) (program : Program) (statuses : List Status) w
       let behind = and_parts (is_body_of program clause.vars clause.body) _ parts.1 in
       both ((length clause.head == arity) && list_all (is_term_of program clause.vars) clause.head) _ parts.0
       (both (is_body_of inst clause.vars (with_exit_at clause.body (out-Goal clause.body))) (is_place_of program clause.place)
-          (ap (is_goal_of inst clause.vars) (without_added clause.body (out-Goal clause.body) refl none) ∙ same_goal clause.vars clause.body ∙ ranges.linked program clause.vars clause.body none behind.0)
-          behind.1)
+      (ap (is_goal_of inst clause.vars) (without_added clause.body (out-Goal clause.body) refl none) ∙ same_goal clause.vars clause.body ∙ ranges.linked program clause.vars clause.body none behind.0)
+      behind.1)
 
   all_made : (arity : ℕ) (clauses : List Clause) → AllByRecursion (λ clause. ends_in_exit clause.body ≡ false) clauses → list_all (is_clause_of program arity) clauses ≡ true
       → list_all (is_clause_of inst arity) (map with_exit clauses) ≡ true

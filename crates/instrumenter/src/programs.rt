@@ -89,9 +89,27 @@ fn instrumented_pred(
     ensures { IfOk result (λ p. p ≡ instrumented_pred program.now statuses.now pred) }
 {
     let mut pred = pred;
-    let calls = kept_of(alloc, program, statuses, Part::AtCall, pred.conds.as_slice())?;
-    let notes = kept_of(alloc, program, statuses, Part::AtExit, pred.conds.as_slice())?;
-    let marks = kept_of(alloc, program, statuses, Part::OfMark, pred.conds.as_slice())?;
+    let calls = kept_of(
+        alloc,
+        program,
+        statuses,
+        Part::AtCall,
+        pred.conds.as_slice(),
+    )?;
+    let notes = kept_of(
+        alloc,
+        program,
+        statuses,
+        Part::AtExit,
+        pred.conds.as_slice(),
+    )?;
+    let marks = kept_of(
+        alloc,
+        program,
+        statuses,
+        Part::OfMark,
+        pred.conds.as_slice(),
+    )?;
     let exits = has_exit(notes.as_slice(), marks.as_slice());
     let clauses = replace(&mut pred.clauses, Items::new(alloc));
     pred.clauses = clauses_for(alloc, exits, clauses)?;
@@ -117,11 +135,7 @@ fn instrumented_preds(
 }
 
 // The program with the checks that are kept.
-fn with_checks(
-    alloc: Global,
-    program: Program,
-    statuses: &[Status],
-) -> Result<Program, NoMemory>
+fn with_checks(alloc: Global, program: Program, statuses: &[Status]) -> Result<Program, NoMemory>
     ensures { IfOk result (λ p. p ≡ instrumented program statuses.now) }
 {
     let mut program = program;
@@ -138,11 +152,7 @@ fn with_checks(
 /// # Errors
 ///
 /// Only for want of memory; the program is gone then.
-pub fn instrument(
-    alloc: Global,
-    program: Program,
-    statuses: &[Status],
-) -> Result<Program, NoMemory>
+pub fn instrument(alloc: Global, program: Program, statuses: &[Status]) -> Result<Program, NoMemory>
     ensures program { IfOk result (λ p. p ≡ instrumented program statuses.now) }
     ensures range { IsProgram program → HasNoExit program → IfOk result (λ p. IsProgram p) }
 {

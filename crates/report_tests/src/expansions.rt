@@ -70,10 +70,7 @@ fn both_terms(alloc: Global, second: Term) -> Result<Items<Term>, NoMemory> {
 }
 
 fn conjunction(alloc: Global, first: Goal, second: Goal) -> Result<Goal, NoMemory> {
-    Ok(Goal::Conj(
-        Boxed::new(alloc, first)?,
-        Boxed::new(alloc, second)?,
-    ))
+    Ok(Goal::Conj(Boxed::new(alloc, first)?, Boxed::new(alloc, second)?))
 }
 
 // _0 = _1 -> ! ; fail
@@ -118,7 +115,15 @@ fn goals_are_written_as_in_source(rt: HostRuntime) -> Result<(), NoMemory> {
     let alloc = rt.alloc();
     let names = ["x.pl", "x", "p", "library(lists)", "q", "lists"];
     let made = program(alloc, &names, preds(alloc)?, Items::new(alloc))?;
-    let text = "x:p/1\n  check is_det x.pl:2\n  p(_0) :- (x : p(_1),library(lists) : q(_0,_1),(_0 = _1 -> ! ; fail),\\+ (int(_0) ; list(_0,int))),'$exit'.\nlibrary(lists):q/2\n";
-    assert!(rt; is_expanded(alloc, made, &[Status::Checked, Status::Checked, Status::Check], text)?);
+    let text =
+        "x:p/1\n  check is_det x.pl:2\n  p(_0) :- (x : p(_1),library(lists) : q(_0,_1),(_0 = _1 -> ! ; fail),\\+ (int(_0) ; list(_0,int))),'$exit'.\nlibrary(lists):q/2\n";
+    assert!(rt;
+        is_expanded(
+            alloc,
+            made,
+            &[Status::Checked, Status::Checked, Status::Check],
+            text
+        )?
+    );
     Ok(())
 }

@@ -58,10 +58,7 @@ pub(crate) fn conditions(alloc: Global) -> Result<Items<Cond>, NoMemory> {
     let post = one(alloc, Prop::Belongs(0, INT_TYPE))?;
     let mut conds = one(alloc, condition(0, CondKind::Calls(disjuncts)))?;
     conds.push(condition(1, CondKind::Success(Items::new(alloc), post)))?;
-    conds.push(condition(
-        2,
-        CondKind::Comp(Items::new(alloc), CompProp::IsDet),
-    ))?;
+    conds.push(condition(2, CondKind::Comp(Items::new(alloc), CompProp::IsDet)))?;
     Ok(conds)
 }
 

@@ -80,7 +80,8 @@ fn four(alloc: Global) -> Result<Program, NoMemory> {
 fn assertions_are_reported_in_order_and_counted(rt: HostRuntime) -> Result<(), NoMemory> {
     let alloc = rt.alloc();
     let statuses = [Status::Check, Status::False, Status::Checked];
-    let text = "check x.pl:2 calls p/1\nfalse x.pl:2 success p/1\nchecked x.pl:2 comp p/1\nchecked x.pl:2 comp p/1\nchecked 2, check 1, false 1\n";
+    let text =
+        "check x.pl:2 calls p/1\nfalse x.pl:2 success p/1\nchecked x.pl:2 comp p/1\nchecked x.pl:2 comp p/1\nchecked 2, check 1, false 1\n";
     assert!(rt; is_reported(alloc, &four(alloc)?, &statuses, text, 1)?);
     Ok(())
 }

@@ -13,21 +13,9 @@ const IN_LINE_9: Place = Place {
 const ENDINGS: [(Ending, &str, u8); 10] = [
     (Ending::NoMore, "end: no more answers\n", 0),
     (Ending::Bound, "end: unknown, step bound\n", 5),
-    (
-        Ending::Violated(0),
-        "end: violated x.pl:2 calls p/1\n",
-        1,
-    ),
-    (
-        Ending::Violated(1),
-        "end: violated x.pl:2 success p/1\n",
-        1,
-    ),
-    (
-        Ending::Violated(2),
-        "end: violated x.pl:2 is_det p/1\n",
-        1,
-    ),
+    (Ending::Violated(0), "end: violated x.pl:2 calls p/1\n", 1),
+    (Ending::Violated(1), "end: violated x.pl:2 success p/1\n", 1),
+    (Ending::Violated(2), "end: violated x.pl:2 is_det p/1\n", 1),
     (Ending::Cyclic(IN_LINE_9), "end: cyclic term x.pl:9\n", 6),
     (
         Ending::Arithmetic(ArithKind::Overflow, IN_LINE_9),
@@ -51,12 +39,7 @@ const ENDINGS: [(Ending, &str, u8); 10] = [
     ),
 ];
 
-fn is_told(
-    alloc: Global,
-    program: &Program,
-    event: &Event,
-    text: &str,
-) -> Result<bool, NoMemory> {
+fn is_told(alloc: Global, program: &Program, event: &Event, text: &str) -> Result<bool, NoMemory> {
     let found = event_text(alloc, program, event)?;
     Ok(found.as_str() == text)
 }
@@ -89,7 +72,14 @@ fn other_events_have_their_texts(rt: HostRuntime) -> Result<(), NoMemory> {
     assert!(rt; is_told(alloc, &program, &Event::Out(Text::new(told)), "one")?);
     let answer = Term::Node(NAME, one(alloc, Term::Var(1))?);
     assert!(rt; is_told(alloc, &program, &Event::Answer(answer), "answer: p(_1)\n")?);
-    assert!(rt; is_told(alloc, &program, &Event::Broken(1), "violated x.pl:2 success p/1\n")?);
+    assert!(rt;
+        is_told(
+            alloc,
+            &program,
+            &Event::Broken(1),
+            "violated x.pl:2 success p/1\n"
+        )?
+    );
     Ok(())
 }
 

@@ -1,4 +1,4 @@
-mod Places
+mod LibraryNames
 mod Loops
 mod Sets
 mod BuiltinNames

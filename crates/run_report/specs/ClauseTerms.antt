@@ -1,10 +1,10 @@
 -- Clauses as terms, as they are written in source.
 -- The headline does not rest on this file.
-use Rattle.std.specs.Prelude.{ℕ, ◌+◌, min, List, [], ◌∷◌, if◌then◌else◌, bytes_eq, Option, None, Some, codes}
+use Rattle.std.specs.Prelude.{ℕ, ◌+◌, min, List, [], ◌∷◌, ◌++◌, bytes_eq, position, Option, None, Some, codes}
 use Rattle.term_core.specs.declared.fixed.TheConstants.{COMMA, CUT, SEMICOLON, EXIT, TRUE, FAIL, LIBRARY, NECK, ARROW, NEGATION, EQUALS, NOT_EQUALS, SAME, NOT_SAME, IS, NUMBER_EQUALS, NUMBER_NOT_EQUALS, LESS, GREATER, LESS_OR_EQUAL, GREATER_OR_EQUAL, COLON, INTEGER, ATOM, WRITE, WRITEQ, NL, TERM, VAR, NONVAR, GROUND}
 use Rattle.term_core.specs.declared.terms.Term.{Term}
 use Rattle.term_core.specs.declared.terms.Term as term
-use Rattle.term_core.specs.Names.{place_of, name_text}
+use Rattle.term_core.specs.Names.{name_text}
 use Rattle.prog_data.specs.declared.basic_names.TheConstants.{LIST_TYPE}
 use Rattle.prog_data.specs.declared.goals.Goal.{Goal, out-Goal}
 use Rattle.prog_data.specs.declared.goals.Goal.TheOpen.{Goal-F, True, Fail, Cut, Call, Builtin as BuiltinGoal, Conj, Disj, IfElse, Not, Exit}
@@ -48,22 +48,22 @@ builtin_name builtin.IsGround = GROUND
 
 -- modules
 
--- the library that a module is, by the module's text, if it is one
-abbrev pub library_of : List ℕ → Option (List ℕ)
-library_of text =
-    if bytes_eq text (codes "library(lists)") then Some (codes "lists")
-    else if bytes_eq text (codes "library(basic_props)") then Some (codes "basic_props")
-    else if bytes_eq text (codes "library(write)") then Some (codes "write")
-    else None
+-- the text of a library's module
+abbrev pub library_text : List ℕ → List ℕ
+library_text name = codes "library(" ++ name ++ codes ")"
+
+-- the library that has this text as a module, if it is one of the names
+abbrev pub library_of : List (List ℕ) → List ℕ → Option ℕ
+library_of names text = position (λ name. bytes_eq (library_text name) text) names
 
 -- `library(L)`, or the module's atom
-abbrev pub module_or_library : List (List ℕ) → ℕ → Option (List ℕ) → Term
-module_or_library names m None = term.Atom m
-module_or_library names m (Some library) = term.Node LIBRARY (term.Atom (place_of library names) ∷ [])
+abbrev pub module_or_library : ℕ → Option ℕ → Term
+module_or_library m None = term.Atom m
+module_or_library m (Some library) = term.Node LIBRARY (term.Atom library ∷ [])
 
 -- a module as it stands before a goal
 abbrev pub module_term : List (List ℕ) → ℕ → Term
-module_term names m = module_or_library names m (library_of (name_text names m))
+module_term names m = module_or_library m (library_of names (name_text names m))
 
 -- goals and clauses
 

@@ -16,11 +16,7 @@ fn push_one(condition: u64, conditions: &mut Items<u64>) -> Result<(), NoMemory>
     Ok(())
 }
 
-fn push_all(
-    alloc: Global,
-    others: &[u64],
-    conditions: &mut Items<u64>,
-) -> Result<(), NoMemory>
+fn push_all(alloc: Global, others: &[u64], conditions: &mut Items<u64>) -> Result<(), NoMemory>
     ensures { OnOk result (conditions.new ≡ conditions.old ++ others.now) }
 {
     let more = Items::from_slice(alloc, others)?;

@@ -1,53 +1,74 @@
 // Modules as they stand before a goal.
-ghost use Rattle.std.specs.Prelude.{◌≡◌, ◌∷◌, [], None, Some, IfOk, MatchOption};
-ghost use Rattle.term_core.specs.declared.terms.Term as term;
-ghost use Rattle.term_core.specs.declared.fixed.TheConstants.{LIBRARY};
-ghost use Rattle.term_core.specs.Names.{place_of};
-ghost use Rattle.run_report.specs.ClauseTerms.{library_of, module_term};
+ghost use Rattle.std.specs.Prelude.{◌≡◌, ◌++◌, List, ℕ, false, IfOk, MatchOption, bytes_eq, codes};
+ghost use Rattle.term_core.specs.Names.{find_text};
+ghost use Rattle.run_report.specs.ClauseTerms.{library_text, library_of, module_term};
 
 use std::alloc::Global;
 use term_core::{LIBRARY, Names, NoMemory, Term, one};
 
-// The library that a module is, by the module's text, if it is one.
-fn library_of(text: &str) -> Option<&'static str>
-    ensures { MatchOption result (library_of text.now ≡ None) (λ library. library_of text.now ≡ Some library.now) }
+// What stands behind `library(`.
+fn behind_front(text: &[u8]) -> Option<&[u8]>
+    ensures { MatchOption result ((name : List ℕ) → bytes_eq (library_text name) text.now ≡ false) (λ rest. text.now ≡ codes "library(" ++ rest.now) }
 {
-    if text == "library(lists)" {
-        Some("lists")
-    } else if text == "library(basic_props)" {
-        Some("basic_props")
-    } else if text == "library(write)" {
-        Some("write")
-    } else {
-        None
+    match text.strip_prefix(b"library(") {
+        None => None,
+        Some(rest) => Some(rest),
     }
 }
 
-// The number of a text, or how many there are where it is none of them.
-#[tactic(auto, using(crate::proofs::Places::place_found, crate::proofs::Places::place_missing))]
-fn place_of(names: &Names, text: &str) -> u64
-    ensures { result ≡ place_of text.now names.now }
+// What stands before a last `)`.
+fn before_close(text: &[u8]) -> Option<&[u8]>
+    ensures { MatchOption result ((name : List ℕ) → bytes_eq (name ++ codes ")") text.now ≡ false) (λ name. text.now ≡ name.now ++ codes ")") }
 {
-    match names.find(text) {
-        Some(place) => place,
-        None => names.len(),
+    match text.strip_suffix(b")") {
+        None => None,
+        Some(name) => Some(name),
     }
 }
 
-// The term `library(L)`.
-fn library_term(alloc: Global, names: &Names, library: &str) -> Result<Term, NoMemory>
-    ensures { IfOk result (λ t. t ≡ term.Node LIBRARY (term.Atom (place_of library.now names.now) ∷ [])) }
+// The name in `library(..)`.
+fn name_in(text: &[u8]) -> Option<&[u8]>
+    ensures { MatchOption result ((name : List ℕ) → bytes_eq (library_text name) text.now ≡ false) (λ name. text.now ≡ library_text name.now) }
 {
-    let name = Term::Atom(place_of(names, library));
-    Ok(Term::Node(LIBRARY, one(alloc, name)?))
+    match behind_front(text) {
+        None => None,
+        Some(rest) => match before_close(rest) {
+            None => None,
+            Some(name) => Some(name),
+        },
+    }
+}
+
+// The number of a name, if it is there.
+fn number_of(names: &Names, name: &[u8]) -> Option<u64>
+    ensures { result ≡ find_text name.now names.now }
+{
+    match str::from_utf8(name) {
+        Ok(text) => names.find(text),
+        Err(_) => {
+            // Names are texts, so it is none of them.
+            names.len();
+            None
+        }
+    }
+}
+
+// The library that has this text as a module.
+fn library_of(names: &Names, text: &str) -> Option<u64>
+    ensures { result ≡ library_of names.now text.now }
+{
+    match name_in(text.as_bytes()) {
+        None => None,
+        Some(name) => number_of(names, name),
+    }
 }
 
 /// A module as it stands before a goal.
 pub(crate) fn module_term(alloc: Global, names: &Names, module_name: u64) -> Result<Term, NoMemory>
     ensures { IfOk result (λ t. t ≡ module_term names.now module_name) }
 {
-    match library_of(names.text_or_empty(module_name)) {
+    match library_of(names, names.text_or_empty(module_name)) {
         None => Ok(Term::Atom(module_name)),
-        Some(library) => library_term(alloc, names, library),
+        Some(library) => Ok(Term::Node(LIBRARY, one(alloc, Term::Atom(library))?)),
     }
 }

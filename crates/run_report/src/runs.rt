@@ -95,12 +95,7 @@ fn ending_text(alloc: Global, program: &Program, ending: &Ending) -> Result<Stri
 }
 
 // The line of words and a term.
-fn term_line(
-    alloc: Global,
-    program: &Program,
-    words: &str,
-    term: &Term,
-) -> Result<String, NoMemory>
+fn term_line(alloc: Global, program: &Program, words: &str, term: &Term) -> Result<String, NoMemory>
     ensures { IfOk result (λ text. string_bytes text ≡ line (words.now ++ quoted_text program.now term.now)) }
 {
     let mut text = String::from_str(alloc, words)?;
