@@ -1,5 +1,5 @@
 // The expansion of an instrumented program.
-ghost use Rattle.std.specs.Prelude.{◌≡◌, ◌++◌, nat_eq, map, filter, slice_get, Some, IfOk, OnOk, string_bytes};
+ghost use Rattle.std.specs.Prelude.{◌≡◌, ◌++◌, nat_eq, map, filter, Some, IfOk, OnOk, string_bytes};
 ghost use Rattle.std.specs.List.{list_any};
 ghost use Rattle.run_report.specs.Expansion.{is_kept_in, header_line, check_line, numbered_line, clause_line, pred_lines, expand_lines};
 
@@ -62,17 +62,17 @@ fn clause_line(
     Ok(text)
 }
 
-// Appends the lines of the kept ones among these conditions.
-fn push_kept(
+// Appends the lines of the conditions of a predicate that are in a set.
+fn push_among(
     alloc: Global,
     program: &Program,
+    pred: &Pred,
     kept: &IndexSet<u64>,
-    conditions: &[u64],
     lines: &mut Items<Text>,
 ) -> Result<(), NoMemory>
-    ensures { OnOk result (lines.new ≡ lines.old ++ map (numbered_line program.now) (filter (λ c. list_any (nat_eq c) kept.now.keys) conditions.now)) }
+    ensures { OnOk result (lines.new ≡ lines.old ++ map (numbered_line program.now) (filter (λ c. list_any (nat_eq c) kept.now.keys) pred.now.conds)) }
 {
-    for condition in conditions {
+    for condition in pred.conds.as_slice() {
         if kept.contains(condition) {
             lines.push(Text::new(numbered_line(alloc, program, *condition)?))?;
         }
@@ -90,7 +90,7 @@ fn push_checks(
     ensures { OnOk result (lines.new ≡ lines.old ++ map (numbered_line program.now) (filter (is_kept_in pred.now) pred.now.conds)) }
 {
     let kept = kept_conditions(alloc, pred)?;
-    push_kept(alloc, program, &kept, pred.conds.as_slice(), lines)?;
+    push_among(alloc, program, pred, &kept, lines)?;
     Ok(())
 }
 
