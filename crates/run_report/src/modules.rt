@@ -27,6 +27,7 @@ fn before_close(text: &[u8]) -> Option<&[u8]>
 }
 
 // The name in `library(..)`.
+#[tactic(auto, using(crate::proofs::LibraryNames::no_name, crate::proofs::LibraryNames::named))]
 fn name_in(text: &[u8]) -> Option<&[u8]>
     ensures { MatchOption result ((name : List ℕ) → bytes_eq (library_text name) text.now ≡ false) (λ name. text.now ≡ library_text name.now) }
 {
