@@ -58,7 +58,8 @@ fn clause_line(
     let mut text = String::from_str(alloc, "  ")?;
     let term = clause_term(alloc, program, pred, clause)?;
     push_term(program, &term, &mut text)?;
-    text.push_str(".\n")?;
+    text.push_str(".")?;
+    text.push_str("\n")?;
     Ok(text)
 }
 
