@@ -16,7 +16,7 @@ use Rattle.prog_data.specs.declared.programs.Pred.{Pred}
 use Rattle.prog_data.specs.declared.programs.Program.{Program}
 use Rattle.prog_data.specs.declared.tables.Status.{Status}
 use Rattle.prog_data.specs.Goals.{no_pred, pred_of, is_exit, ends_in_exit, ends_in_exit_at, without_exit, without_exit_at}
-use Rattle.prog_data.specs.Ranges.{is_place_of, is_pred_of, is_cond_of, is_term_of, is_call_of, goal_step, is_goal_of, is_body_of, is_clause_of, is_kind_of, is_prop_of}
+use Rattle.prog_data.specs.Ranges.{is_place_of, is_pred_of, is_cond_of, is_term_of, goal_step, is_goal_of, is_body_of, is_clause_of, is_kind_of, is_prop_of}
 use Rattle.prog_data.specs.Programs.{rises, IsPred, IsCond, is_claim_of, is_entry_of, IsProgram, HasNoExit}
 use Rattle.prog_data.specs.RangeLaws.{RangesAreKept}
 use Rattle.machine_model.specs.Instrumented.{with_exit, with_exit_at, instrumented_pred, instrumented}
