@@ -5,7 +5,6 @@ use Rattle.std.specs.Prelude.{◌+◌, nat_lt, min, Some}
 use Rattle.term_core.specs.declared.fixed.TheConstants.{TERM}
 use Rattle.prog_data.specs.declared.goals.Builtin.{Builtin}
 use Rattle.prog_data.specs.declared.goals.Builtin.TheVariants as builtin
-use Rattle.prog_data.specs.declared.basic_names.TheConstants.{LIST_TYPE}
 use Rattle.prog_data.specs.declared.control.Meaning.TheVariants as meaning
 use Rattle.prog_data.specs.Control.{meaning_of}
 use Rattle.prog_data.specs.ControlLaws.{IsOneTable}

@@ -1,4 +1,4 @@
-use Rattle.std.proofs.Common.{◌≡◌, ◌++◌, map, filter, ◌∙◌}
+use Rattle.std.proofs.Common.{◌++◌, map, filter, ◌∙◌}
 use Rattle.run_report.specs.Expansion.{numbered_line}
 use Rattle.run_report.proofs.expansion.push_checks.Goals as goal
 
