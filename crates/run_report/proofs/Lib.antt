@@ -2,3 +2,4 @@ mod LibraryNames
 mod Loops
 mod Sets
 mod BuiltinNames
+mod KeptConditions

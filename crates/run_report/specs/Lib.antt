@@ -5,3 +5,4 @@ pub mod Report
 pub mod ClauseTerms
 pub mod TermLaws
 pub mod Expansion
+pub mod KeptLaws

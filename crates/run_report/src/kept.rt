@@ -2,9 +2,10 @@
 ghost use Rattle.std.specs.Prelude.{◌≡◌, ◌++◌, ◌∷◌, [], ◌||◌, ℕ, nat_eq, flat_map, IfOk, OnOk};
 ghost use Rattle.std.specs.List.{list_any};
 ghost use Rattle.run_report.specs.Expansion.{conds_of, is_kept_in};
+ghost use Rattle.run_report.specs.KeptLaws.{ExpandsKept};
 
 use indexmap::IndexSet;
-use prog_data::{Check, Pred};
+use prog_data::{Check, Pred, program_ranges_law};
 use sqlite_items::Items;
 use std::alloc::Global;
 use term_core::NoMemory;
@@ -74,4 +75,11 @@ pub(crate) fn kept_conditions(alloc: Global, pred: &Pred) -> Result<IndexSet<u64
 {
     let conditions = checked_conditions(alloc, pred)?;
     set_of(alloc, conditions.as_slice())
+}
+
+/// Of an instrumented program the expansion has exactly the conditions whose status is not checked.
+pub fn kept_conditions_law()
+    ensures { ExpandsKept }
+{
+    program_ranges_law();
 }

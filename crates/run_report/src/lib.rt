@@ -12,6 +12,7 @@ mod runs;
 
 pub use clause_terms::builtin_names_law;
 pub use expansion::expand_text;
+pub use kept::kept_conditions_law;
 pub use refusals::refusal_text;
 pub use report::{report_status, report_text};
 pub use runs::{ending_status, event_text, query_text};
