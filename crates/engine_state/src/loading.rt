@@ -17,7 +17,7 @@ impl<'p> Engine<'p> {
     /// # Errors
     ///
     /// Only for want of memory.
-    pub(crate) fn load_call(
+    pub fn load_call(
         &mut self,
         alloc: Global,
         pred: u64,
