@@ -1,2 +1,6 @@
-//! What the engine over cells does at each goal, call, exit and failure.
+//! What the engine over cells does at each call, exit, built-in and failure.
 #![tactic(auto)]
+
+mod readings;
+
+pub use readings::Reading;
