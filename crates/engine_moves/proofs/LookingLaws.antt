@@ -2,7 +2,7 @@
 use Rattle.std.proofs.Common.{◌≡◌, ◌≤◌, ◌<◌, ℕ, zero, suc, ◌+◌, Bool, true, false, not, ◌&&◌, List, [], ◌∷◌, ◌++◌, drop, length, filter, slice_get, None, refl, sym, ap, ◌∙◌, arith}
 use Rattle.std.proofs.lemmas.Bool.{and_parts, true≢false}
 use Rattle.std.proofs.lemmas.List.{length-append}
-use Rattle.std.specs.Prelude.{cond, flat_map, slice_index_or, nat_lt}
+use Rattle.std.specs.Prelude.{◌==◌, cond, slice_index_or}
 use Rattle.std.specs.List.{list_all}
 use Rattle.std.proofs.lemmas.Bool.Decides.{nat_tests}
 use Rattle.prog_data.specs.declared.programs.Program.{Program}
@@ -36,11 +36,13 @@ none_pass test (x ∷ xs) e = by_test (test x) (and_parts (not (test x)) (list_a
   by_test false e rest = rest
 
 -- of some of which only the first may pass
-pub first_passes : (test : ℕ → Bool) (x : ℕ) (xs : List ℕ) → list_all (λ c. not (test c)) xs ≡ true → test x ≡ true → filter test (x ∷ xs) ≡ x ∷ []
-first_passes test x xs others e = (λ i. cond (e i) (x ∷ none_pass test xs others i) (none_pass test xs others i))
+pub first_passes : (test : ℕ → Bool) (xs : List ℕ) → (length xs == 0) ≡ false → list_all (λ c. not (test c)) (drop 1 xs) ≡ true → test (slice_index_or xs 0 0) ≡ true → filter test xs ≡ slice_index_or xs 0 0 ∷ []
+first_passes test [] some others holds = absurd (true≢false some)
+first_passes test (x ∷ xs) some others holds = λ i. cond (holds i) (x ∷ none_pass test xs others i) (none_pass test xs others i)
 
-pub first_fails : (test : ℕ → Bool) (x : ℕ) (xs : List ℕ) → list_all (λ c. not (test c)) xs ≡ true → test x ≡ false → filter test (x ∷ xs) ≡ []
-first_fails test x xs others e = (λ i. cond (e i) (x ∷ none_pass test xs others i) (none_pass test xs others i))
+pub first_fails : (test : ℕ → Bool) (xs : List ℕ) → (length xs == 0) ≡ false → list_all (λ c. not (test c)) (drop 1 xs) ≡ true → test (slice_index_or xs 0 0) ≡ false → filter test xs ≡ []
+first_fails test [] some others fails = refl
+first_fails test (x ∷ xs) some others fails = λ i. cond (fails i) (x ∷ none_pass test xs others i) (none_pass test xs others i)
 
 -- one at most of all pieces together is the one that was found
 pub only_one : (c : ℕ) (rest : List ℕ) → length (c ∷ rest) ≤ 1 → c ∷ rest ≡ c ∷ []

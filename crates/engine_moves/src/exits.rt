@@ -19,7 +19,9 @@ ghost use Rattle.engine_moves.specs.Exiting.{exit_state, IsExitPlaced, HasTested
 use crate::looking::stops;
 use crate::readings::Reading;
 use crate::turns::Turn;
-use engine_state::{Counted, Engine, Exit, Stage, exits_law, moves_law, noted, test_all, tests_law};
+use engine_state::{
+    Counted, Engine, Exit, Stage, exits_law, moves_law, noted, test_all, tests_law,
+};
 use machine_model::leaner_states_law;
 use prop_check::{exit_breaks, post_holds_at};
 use term_core::NoMemory;

@@ -52,8 +52,8 @@ add_clauses-requires-clause-rest c =
     (to_fourth c.args.reading c.args.pred c.args.args c.args.rest e0 c.let_go.new.self e2 c.add_mark.new.engine c.in_ok-marked.marked c.in_ok-mark.mark c.let_go.ensures c.in_ok-marked.ensures c.in_ok-mark.ensures c.note_conditions-2.new.engine c.in_ok-noted.noted
     c.in_ok-noted.ensures).there
 
-pub overflow_add-calls : goal.overflow_add-calls
-overflow_add-calls c =
+pub overflow_add-engine : goal.overflow_add-engine
+overflow_add-engine c =
     let e0 = c.args.engine.now in
     let e2 = c.note_conditions.new.engine in
     let calls = (to_fifth c.args.reading c.args.pred c.args.args c.args.rest e0 c.let_go.new.self e2 c.add_mark.new.engine c.in_ok-marked.marked c.in_ok-mark.mark c.let_go.ensures c.in_ok-marked.ensures c.in_ok-mark.ensures c.note_conditions-2.new.engine c.in_ok-noted.noted
