@@ -1,15 +1,10 @@
 -- The conditions that are looked at.
-use Rattle.std.proofs.Common.{◌≡◌, ◌≤◌, ◌<◌, ℕ, zero, suc, ◌+◌, Bool, true, false, not, ◌&&◌, List, [], ◌∷◌, ◌++◌, drop, length, filter, slice_get, None, refl, sym, ap, ◌∙◌, arith}
-use Rattle.std.proofs.lemmas.Bool.{and_parts, true≢false}
-use Rattle.std.proofs.lemmas.List.{length-append}
+use Rattle.std.proofs.Common.{◌≡◌, ℕ, zero, suc, Bool, true, false, not, List, [], ◌∷◌, drop, length, filter, slice_get, None, refl, sym, true≢false}
+use Rattle.std.proofs.lemmas.Bool.{and_parts}
 use Rattle.std.specs.Prelude.{◌==◌, cond, slice_index_or}
 use Rattle.std.specs.List.{list_all}
-use Rattle.std.proofs.lemmas.Bool.Decides.{nat_tests}
 use Rattle.prog_data.specs.declared.programs.Program.{Program}
 use Rattle.prog_data.specs.Goals.{pred_of, no_pred}
-use Rattle.prog_data.specs.Programs.{IsPred, IsProgram}
-use Rattle.prog_data.specs.RangeLaws.{RangesAreKept}
-use Rattle.prog_data.specs.Ranges.{is_pred_of}
 
 -- an element that is not there
 absent_index : {A : Type 0} (xs : List A) (i : ℕ) (d : A) → slice_get xs i ≡ None → slice_index_or xs i d ≡ d
@@ -21,14 +16,8 @@ absent_index (x ∷ xs) (suc i) d e = absent_index xs i d e
 pub absent_pred : (program : Program) (p : ℕ) → slice_get program.preds p ≡ None → no_pred ≡ pred_of program p
 absent_pred program p e = sym (absent_index program.preds p no_pred e)
 
--- a predicate that is there is in range
-pub there_ranged : RangesAreKept → (program : Program) → IsProgram program → (p : ℕ) → is_pred_of program p ≡ true → IsPred program p (pred_of program p)
-there_ranged kept program ranged p there =
-    let less : p < length program.preds = grind (arith, nat_tests) in
-    kept.preds program ranged p less
-
 -- none of these passes
-pub none_pass : (test : ℕ → Bool) (xs : List ℕ) → list_all (λ c. not (test c)) xs ≡ true → filter test xs ≡ []
+none_pass : (test : ℕ → Bool) (xs : List ℕ) → list_all (λ c. not (test c)) xs ≡ true → filter test xs ≡ []
 none_pass test [] e = refl
 none_pass test (x ∷ xs) e = by_test (test x) (and_parts (not (test x)) (list_all (λ c. not (test c)) xs) e).0 (none_pass test xs (and_parts (not (test x)) (list_all (λ c. not (test c)) xs) e).1) where
   by_test : (b : Bool) → not b ≡ true → filter test xs ≡ [] → cond b (x ∷ filter test xs) (filter test xs) ≡ []
@@ -43,8 +32,3 @@ first_passes test (x ∷ xs) some others holds = λ i. cond (holds i) (x ∷ non
 pub first_fails : (test : ℕ → Bool) (xs : List ℕ) → (length xs == 0) ≡ false → list_all (λ c. not (test c)) (drop 1 xs) ≡ true → test (slice_index_or xs 0 0) ≡ false → filter test xs ≡ []
 first_fails test [] some others fails = refl
 first_fails test (x ∷ xs) some others fails = λ i. cond (fails i) (x ∷ none_pass test xs others i) (none_pass test xs others i)
-
--- one at most of all pieces together is the one that was found
-pub only_one : (c : ℕ) (rest : List ℕ) → length (c ∷ rest) ≤ 1 → c ∷ rest ≡ c ∷ []
-only_one c [] le = refl
-only_one c (d ∷ rest) le = absurd (omega (arith, le))
