@@ -1,5 +1,5 @@
 -- A call that is made.
-use Rattle.std.proofs.Common.{◌≡◌, ◌≤◌, ◌<◌, ◌+◌, ◌-◌, ◌^◌, ℕ, zero, suc, min, false, List, [], ◌∷◌, ◌++◌, map, length, take, drop, Option, Some, None, refl, sym, ap, subst, ◌∙◌, arith}
+use Rattle.std.proofs.Common.{◌≡◌, ◌≤◌, ◌<◌, ◌+◌, ◌-◌, ◌^◌, ℕ, suc, min, false, List, [], ◌∷◌, ◌++◌, map, length, drop, Option, Some, None, refl, sym, ap, subst, ◌∙◌, arith}
 use Rattle.std.proofs.lemmas.List.{length-append, length-drop, length-take-le}
 use Rattle.std.specs.Prelude.{Vec}
 use Rattle.std.specs.declared.alloc.Global.{Global}
@@ -20,10 +20,9 @@ use Rattle.engine_state.specs.declared.findings.Counted.{Counted}
 use Rattle.engine_state.specs.declared.tasks.Row.{Row}
 use Rattle.engine_state.specs.declared.tasks.Exit as code_exit
 use Rattle.engine_state.specs.declared.points.Alternative.TheVariants as code_alternative
-use Rattle.engine_state.specs.declared.points.Pending as code_pending
 use Rattle.engine_state.specs.declared.stages.Stage.TheVariants as stage
-use Rattle.engine_state.specs.Engines.{Task, Pending, Retries, chain, frame_with, call_with, alternative_choices, as_state}
-use Rattle.engine_state.specs.Views.{row_of, as_links, as_exit, as_pending, as_alternative}
+use Rattle.engine_state.specs.Engines.{Pending, Retries, frame_with, alternative_choices, as_state}
+use Rattle.engine_state.specs.Views.{row_of, as_links, as_exit, as_alternative}
 use Rattle.engine_state.specs.Notes.{IsRowWithin, NotesStay}
 use Rattle.engine_state.specs.Moments.{MomentsStay, MomentsGive}
 use Rattle.engine_state.specs.PointMoves.{PointsPushed}

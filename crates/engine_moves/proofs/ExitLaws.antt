@@ -1,12 +1,10 @@
 -- Exits of calls.
-use Rattle.std.proofs.Common.{◌≡◌, ◌≤◌, ◌+◌, ◌-◌, ◌^◌, ℕ, min, Bool, List, [], ◌∷◌, ◌++◌, map, length, Option, Some, None, refl, sym, ap, subst, ◌∙◌, append_assoc, arith}
+use Rattle.std.proofs.Common.{◌≡◌, ◌+◌, ◌-◌, ◌^◌, ℕ, min, Bool, List, [], ◌∷◌, ◌++◌, map, length, Option, Some, None, refl, sym, ap, subst, ◌∙◌, append_assoc, arith}
 use Rattle.std.proofs.lemmas.List.{append-nil}
 use Rattle.prog_data.specs.declared.events.Ending.{Ending}
 use Rattle.prog_data.specs.declared.events.Event.TheVariants.{Broken}
-use Rattle.prog_data.specs.declared.programs.Program.{Program}
-use Rattle.machine_model.specs.State.{Choice, Doing, Going, State, Trace, exit_mark}
+use Rattle.machine_model.specs.State.{Doing, Going, Trace, exit_mark}
 use Rattle.machine_model.specs.Step.{Finding, quietly, mark_of, mark_conds, mark_exited}
-use Rattle.machine_model.specs.Tests.{Tests}
 use Rattle.machine_model.specs.LeanerLaws.{LeanerStatesAreFound}
 use Rattle.term_heap.specs.Changes.{size_of, value_of}
 use Rattle.engine_state.specs.declared.engine.Engine as code

@@ -1,16 +1,15 @@
 -- Notes that are added behind those that there are.
-use Rattle.std.proofs.Common.{◌≡◌, ◌≤◌, ◌+◌, ◌-◌, ℕ, List, [], ◌∷◌, ◌++◌, length, take, drop, reverse, refl, sym, ap, subst, ◌∙◌, arith}
+use Rattle.std.proofs.Common.{◌≡◌, ◌-◌, ℕ, List, [], ◌∷◌, ◌++◌, length, take, drop, reverse, refl, sym, ap, subst, ◌∙◌, arith}
 use Rattle.std.proofs.lemmas.List.{length-append, reverse-append, reverse-reverse, take_all}
 use Rattle.std.proofs.Math.Seq.{drop-append_seam}
 use Rattle.std.specs.Prelude.{Vec}
 use Rattle.std.specs.List.{AllByRecursion}
 use Rattle.std.specs.declared.alloc.Global.{Global}
 use Rattle.engine_state.specs.declared.engine.Engine as code
-use Rattle.engine_state.specs.declared.tasks.Row.{Row}
 use Rattle.engine_state.specs.Engines.{chain, choices_of}
 use Rattle.engine_state.specs.Stacks.{AreCounted}
 use Rattle.engine_state.specs.Views.{row_of, as_links, as_points}
-use Rattle.engine_state.specs.Notes.{IsRowWithin, IsTaskNoted, IsAlternativeNoted, AreLinksNoted, ArePointsNoted, NotesStay}
+use Rattle.engine_state.specs.Notes.{IsTaskNoted, IsAlternativeNoted, AreLinksNoted, ArePointsNoted, NotesStay}
 use Rattle.engine_state.specs.Moments.{MomentsStay, MomentsGive}
 use Rattle.engine_state.specs.Stages.{choices_at, IsKept}
 use Rattle.engine_state.specs.Turns.{GoesTo}

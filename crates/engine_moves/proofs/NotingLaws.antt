@@ -5,12 +5,10 @@ use Rattle.std.proofs.lemmas.List.Concat.{flat_map-append}
 use Rattle.std.proofs.lemmas.List.Elements.{filter-append}
 use Rattle.std.specs.Prelude.{cond, flat_map}
 use Rattle.term_core.specs.declared.terms.Term.{Term}
-use Rattle.prog_data.specs.declared.programs.Check.{Check}
 use Rattle.prog_data.specs.declared.programs.Program.{Program}
 use Rattle.prog_data.specs.Conditions.{kind_of, pre_holds}
 use Rattle.engine_state.specs.StepsMade.{whose_pre_holds}
-use Rattle.engine_moves.specs.declared.looking.Kind.{Kind}
-use Rattle.engine_moves.specs.Looking.{checked_by, IsNoted}
+use Rattle.engine_moves.specs.Looking.{IsNoted}
 
 -- one more piece of lists that are put together
 pub one_more_piece : {X : Type 0} (f : X → List ℕ) (xs : List X) (x : X) → flat_map f (xs ++ x ∷ []) ≡ flat_map f xs ++ f x

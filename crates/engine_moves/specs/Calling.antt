@@ -1,11 +1,10 @@
 -- What is done at a call.
 -- The headline does not rest on this file.
-use Rattle.std.specs.Prelude.{◌≡◌, ◌+◌, ◌-◌, ◌^◌, ℕ, min, List, length, Option}
+use Rattle.std.specs.Prelude.{◌≡◌, ◌-◌, ◌^◌, ℕ, min, List, length, Option}
 use Rattle.term_core.specs.declared.terms.Term.{Term}
 use Rattle.prog_data.specs.declared.programs.Place.{Place}
 use Rattle.machine_model.specs.State.{Call, Doing, Failed, State, Going, Trace}
 use Rattle.machine_model.specs.Step.{with_mark, mark_height}
-use Rattle.machine_model.specs.Tests.{Looks}
 use Rattle.term_heap.specs.Changes.{size_of, value_of}
 use Rattle.prop_check.specs.Places.{row_at}
 use Rattle.engine_state.specs.declared.engine.Engine as code

@@ -1,6 +1,6 @@
 -- What is done at an exit of a call.
 -- The headline does not rest on this file.
-use Rattle.std.specs.Prelude.{◌≡◌, ◌≤◌, ℕ, List, ◌∷◌, length}
+use Rattle.std.specs.Prelude.{◌≤◌, ℕ, List, ◌∷◌, length}
 use Rattle.machine_model.specs.State.{State}
 use Rattle.machine_model.specs.Step.{mark_of, mark_conds, mark_exited}
 use Rattle.term_heap.specs.Changes.{size_of}

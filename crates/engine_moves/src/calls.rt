@@ -147,7 +147,6 @@ fn make_call<'p>(
     requires bound { engine.old.calls < bound }
     ensures { IfOk result (λ tests. HasCalled reading bound pred args rest engine.old tests engine.new) }
 {
-    pushed_law();
     engine.let_go(rest);
     let marked = note_conditions(engine, reading, Kind::Comp, pred, args)?;
     let mark = add_mark(engine, pred, marked.row)?;

@@ -1,4 +1,4 @@
-use Rattle.std.proofs.Common.{sym, ◌∙◌, arith}
+use Rattle.std.proofs.Common.{arith}
 use Rattle.engine_moves.proofs.CallLaws.{no_clauses, some_clauses}
 use Rattle.engine_moves.proofs.calls.add_clauses.Goals as goal
 

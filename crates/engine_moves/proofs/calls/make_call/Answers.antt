@@ -1,7 +1,4 @@
-use Rattle.std.proofs.Common.{◌≡◌, ◌+◌, ◌-◌, ◌^◌, min, ◌++◌, length, arith}
-use Rattle.prog_data.specs.Goals.{pred_of}
-use Rattle.machine_model.specs.Step.{tries, with_mark}
-use Rattle.engine_state.specs.Views.{row_of}
+use Rattle.std.proofs.Common.{arith}
 use Rattle.engine_state.specs.Stages.{choices_at}
 use Rattle.engine_moves.proofs.GoingOn.{call_there}
 use Rattle.engine_moves.proofs.CallLaws.{to_third, to_fourth, to_fifth, has_called}

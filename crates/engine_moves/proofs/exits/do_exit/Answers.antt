@@ -1,4 +1,3 @@
-use Rattle.std.proofs.Common.{ℕ}
 use Rattle.term_heap.specs.Changes.{size_of}
 use Rattle.engine_state.specs.Stages.{choices_at}
 use Rattle.engine_moves.specs.Readings.{tests_by}

@@ -1,4 +1,4 @@
-use Rattle.std.proofs.Common.{None, subst, arith}
+use Rattle.std.proofs.Common.{subst, arith}
 use Rattle.engine_state.specs.StepsMade.{found_at_exit}
 use Rattle.engine_state.specs.Views.{row_of}
 use Rattle.engine_state.specs.Findings.{HasAdded}

@@ -1,4 +1,4 @@
-use Rattle.std.proofs.Common.{◌≡◌, ℕ, Bool, false, not, Some, None, sym, ap, subst, ◌∙◌, of_calls}
+use Rattle.std.proofs.Common.{◌≡◌, Bool, false, not, Some, None, sym, ap, subst, ◌∙◌, of_calls}
 use Rattle.machine_model.specs.Step.{mark_of, mark_conds, mark_exited}
 use Rattle.prog_data.specs.Conditions.{kind_of, exit_breaks}
 use Rattle.engine_state.specs.StepsMade.{found_at_mark}
