@@ -1,4 +1,4 @@
-// Turns of a run.
+// Where a move led.
 use engine_state::Stage;
 
 /// Where a run went, and how many tests were made.
