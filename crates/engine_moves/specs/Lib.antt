@@ -1,2 +1,6 @@
+pub mod Answers
+pub mod Failures
 pub mod Readings
+pub mod Relied
+pub mod Tries
 pub mod Turned

@@ -1,6 +1,14 @@
 //! What the engine over cells does at each call, exit, built-in and failure.
 #![tactic(auto)]
 
+mod answers;
+mod failing;
 mod readings;
+mod relied;
+mod tries;
+mod turns;
 
+pub use answers::answer;
+pub use failing::do_failed;
 pub use readings::Reading;
+pub use turns::Turn;
