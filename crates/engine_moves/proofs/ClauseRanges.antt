@@ -81,16 +81,15 @@ absent_above v =
 le_of : (a b : ℕ) → nat_le a b ≡ true → a ≤ b
 le_of a b e = grind (arith, nat_tests)
 
-module _ (program : Program) (vars size base : ℕ) (enough : base + vars ≤ size) where
-  -- a variable at or above a term's greatest is not in it
-  placed_by : (t : Term) → above t ≤ vars → IsPlaced size base t
-  placed_by t most v o = by_number (cases_lt v vars) where
-    by_number : (v < vars) ⊎ (vars ≤ v) → v + base < size
-    by_number (inl lt) = omega (arith, lt, enough)
-    by_number (inr le) = absurd (true≢false (sym o ∙ absent_above v t (omega (arith, le, most))))
+-- a variable at or above a term's greatest is not in it
+pub placed_by : (vars size base : ℕ) → base + vars ≤ size → (t : Term) → above t ≤ vars → IsPlaced size base t
+placed_by vars size base enough t most v o = by_number (cases_lt v vars) where
+  by_number : (v < vars) ⊎ (vars ≤ v) → v + base < size
+  by_number (inl lt) = omega (arith, lt, enough)
+  by_number (inr le) = absurd (true≢false (sym o ∙ absent_above v t (omega (arith, le, most))))
 
-  pub placed_terms : (ts : List Term) → list_all (is_term_of program vars) ts ≡ true → AllByRecursion (IsPlaced size base) ts
-  placed_terms [] e = tt
-  placed_terms (t ∷ ts) e =
-      let parts = and_parts (is_term_of program vars t) _ e in
-      (placed_by t (le_of (above t) vars (and_parts (has_names (length program.names) t) _ parts.0).1), placed_terms ts parts.1)
+pub placed_terms : (program : Program) (vars size base : ℕ) → base + vars ≤ size → (ts : List Term) → list_all (is_term_of program vars) ts ≡ true → AllByRecursion (IsPlaced size base) ts
+placed_terms program vars size base enough [] e = tt
+placed_terms program vars size base enough (t ∷ ts) e =
+    let parts = and_parts (is_term_of program vars t) _ e in
+    (placed_by vars size base enough t (le_of (above t) vars (and_parts (has_names (length program.names) t) _ parts.0).1), placed_terms program vars size base enough ts parts.1)

@@ -3,5 +3,6 @@ mod ClauseRanges
 mod EnterLaws
 mod FailureLaws
 mod HeapLaws
+mod StartLaws
 mod TryLaws
 mod TurnLaws

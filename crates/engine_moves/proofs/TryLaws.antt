@@ -68,7 +68,7 @@ new_variables enter fresh old new count base is made e made_new =
       is_new = changes;
       values = ap value_of changes ∙ enter.free old.changes count serial made;
       cells = size_new ∙ size ∙ ap (λ n. size_of old.changes + n) counted;
-      are_new = subst (AreNew new.changes) (sym is) (subst (λ cs. AreNew cs (size_of old.changes)) (sym changes) (fresh old.changes count serial made));
+      are_new = subst (AreNew new.changes) (sym is) (subst (λ xs. AreNew xs (size_of old.changes)) (sym changes) (fresh old.changes count serial made));
     }
 
 module _ (law : Relied) (reading : Reading) (bound : ℕ) (old : code.Engine) (k : ℕ) (c : code_pending.Pending) (to_try : IsToTry old k c) where
@@ -125,7 +125,7 @@ module _ (law : Relied) (reading : Reading) (bound : ℕ) (old : code.Engine) (k
       more = later.more ++ made_variables.more
 
       is_later : heap.changes ≡ more ++ old.heap.changes
-      is_later = later.is_new ∙ ap (λ cs. later.more ++ cs) made_variables.is_new ∙ sym (append_assoc later.more made_variables.more old.heap.changes)
+      is_later = later.is_new ∙ ap (λ xs. later.more ++ xs) made_variables.is_new ∙ sym (append_assoc later.more made_variables.more old.heap.changes)
 
       abbrev mid : code.Engine
       mid = record old { heap = heap }
@@ -140,7 +140,7 @@ module _ (law : Relied) (reading : Reading) (bound : ℕ) (old : code.Engine) (k
       below = later_below law old heap more is_later to_try.kept made
 
       more_cells : size_of own.changes ≤ size_of heap.changes
-      more_cells = subst (λ cs. size_of own.changes ≤ size_of cs) (sym later.is_new) (sizes_stay later.more own.changes)
+      more_cells = subst (λ xs. size_of own.changes ≤ size_of xs) (sym later.is_new) (sizes_stay later.more own.changes)
 
       enough : base + clause.vars ≤ size_of heap.changes
       enough = let cells = made_variables.cells in let is = made_variables.base_is in omega (arith, cells, is, more_cells)

@@ -106,13 +106,13 @@ fn add_variables(heap: &mut Heap, count: u64) -> Result<u64, NoMemory>
 {
     clauses_law();
     new_law();
-    let _size = heap.len();
+    let base = heap.len();
     if count == 0 {
-        return Ok(heap.len());
+        return Ok(base);
     }
-    let base = heap.fresh(count)?;
-    let _more = heap.len();
-    Ok(base)
+    let first = heap.fresh(count)?;
+    let _size = heap.len();
+    Ok(first)
 }
 
 // Puts the exit of a call before the tasks behind it, where a reading has one after a body and it tests something; the link with the first of the tasks then.
@@ -126,11 +126,11 @@ fn put_behind(
     requires placed { IsPendingPlaced engine.old pending }
     ensures { IfOk result (λ k. HasBehind reading engine.old body.now pending k engine.new) }
 {
-    if !has_exit(reading, body) {
-        return Ok(pending.rest);
+    if has_exit(reading, body) {
+        let link = engine.put_exit(pending.exit, pending.rest)?;
+        return Ok(link);
     }
-    let link = engine.put_exit(pending.exit, pending.rest)?;
-    Ok(link)
+    Ok(pending.rest)
 }
 
 // A clause was entered: its body is due, and behind it the exit of the call.
