@@ -33,7 +33,7 @@ use Rattle.engine_moves.specs.Readings.{tests_by}
 use Rattle.engine_moves.specs.Relied.{Relied}
 use Rattle.engine_moves.specs.Turned.{IsMoveTo, HasTurned}
 use Rattle.engine_moves.specs.Tries.{IsPendingPlaced, behind_body, HasBehind, entered_state, IsEntered}
-use Rattle.engine_moves.proofs.TurnLaws.{stays, state_after, placed_after}
+use Rattle.engine_moves.proofs.MadeTurns.{stays, state_after, placed_after}
 
 -- an exit that tests nothing
 

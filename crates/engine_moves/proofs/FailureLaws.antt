@@ -33,7 +33,7 @@ use Rattle.engine_moves.specs.Relied.{Relied}
 use Rattle.engine_moves.specs.Turned.{IsMoveTo, HasTurned}
 use Rattle.engine_moves.specs.Tries.{try_state, IsToTry}
 use Rattle.engine_moves.specs.Failures.{IsBackAt, failed_unless}
-use Rattle.engine_moves.proofs.TurnLaws.{moved_before}
+use Rattle.engine_moves.proofs.MadeTurns.{moved_before}
 
 -- what went back
 

@@ -3,6 +3,6 @@ mod ClauseRanges
 mod EnterLaws
 mod FailureLaws
 mod HeapLaws
+mod MadeTurns
 mod StartLaws
 mod TryLaws
-mod TurnLaws

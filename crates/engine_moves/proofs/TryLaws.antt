@@ -1,6 +1,8 @@
 -- The trying of a clause over cells.
 use Rattle.std.proofs.Common.{◌≡◌, ◌≤◌, ◌<◌, ℕ, ◌+◌, List, [], ◌∷◌, ◌++◌, length, replicate, None, Some, refl, sym, ap, subst, ◌∙◌, arith}
 use Rattle.std.proofs.lemmas.List.{append_assoc, length-append, length-replicate}
+use Rattle.std.specs.List.{AllByRecursion}
+use Rattle.term_core.specs.declared.terms.Term.{Term}
 use Rattle.prog_data.specs.declared.programs.Clause.{Clause}
 use Rattle.prog_data.specs.declared.programs.Program.{Program}
 use Rattle.prog_data.specs.declared.events.Ending.TheVariants as ending
@@ -12,6 +14,7 @@ use Rattle.machine_model.specs.Leaner.{clause_at, IsLeaner}
 use Rattle.machine_model.specs.LeanerLaws.{AreBelow}
 use Rattle.term_heap.specs.declared.cells.Cell.TheVariants.{Free}
 use Rattle.term_heap.specs.Changes.{Change, Grows, History, cells_of, size_of, value_of, next_serial, IsMade}
+use Rattle.term_heap.specs.Loads.{IsPlaced}
 use Rattle.term_heap.specs.PastStays.{GoesOn}
 use Rattle.term_heap.proofs.PastLaws.{sizes_stay}
 use Rattle.unify_core.specs.Heads.{HasMatched, AreNew, FreshAreNew}
@@ -34,8 +37,13 @@ use Rattle.engine_moves.specs.Readings.{tests_by}
 use Rattle.engine_moves.specs.Relied.{Relied}
 use Rattle.engine_moves.specs.Turned.{IsMoveTo, HasTurned}
 use Rattle.engine_moves.specs.Tries.{IsPendingPlaced, try_state, IsToTry, HasVariables, entered_state, IsEntered}
-use Rattle.engine_moves.proofs.ClauseRanges.{IsInRange, clause_in_range}
+use Rattle.engine_moves.proofs.ClauseRanges.{clause_in_range, placed_terms}
 use Rattle.engine_moves.proofs.HeapLaws.{query_there, tasks_there, later_kept, later_choices, later_below}
+
+-- a head that was matched
+
+pub matched_as : (own : List Change) (base first : ℕ) (ts ts' : List Term) (u u' : Unified) (new : List Change) → ts ≡ ts' → u ≡ u' → HasMatched own base first ts u new → HasMatched own base first ts' u' new
+matched_as own base first ts ts' u u' new same is matched = subst (λ us. HasMatched own base first us u' new) same (subst (λ x. HasMatched own base first ts x new) is matched)
 
 -- variables
 
@@ -119,6 +127,13 @@ module _ (law : Relied) (reading : Reading) (bound : ℕ) (old : code.Engine) (k
     -- the arguments are below the clause's own variables
     pub args_below : (base : ℕ) → base ≡ size_of old.heap.changes → c.exit.args.first + length clause.head ≤ base
     args_below base is = let within = to_try.in_hand.call.within in omega (arith, within, as_many, is)
+
+    -- the head's terms are placed
+    pub head_placed : (base : ℕ) (own : History) → HasVariables old.heap clause.vars base own → AllByRecursion (IsPlaced (size_of own.changes) base) clause.head
+    head_placed base own v =
+        let cells = v.cells in
+        let is = v.base_is in
+        placed_terms program clause.vars (size_of own.changes) base (omega (arith, cells, is)) clause.head (clause_in_range program to_try.kept.in_range c.exit.pred k clause there).head
 
     module _ (base : ℕ) (own heap : History) (made_variables : HasVariables old.heap clause.vars base own) (later : GoesOn own heap) (made : IsMade heap.changes) where
       abbrev more : List Change

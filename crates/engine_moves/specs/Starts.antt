@@ -1,6 +1,6 @@
 -- The start of a run over cells.
 -- The headline does not rest on this file.
-use Rattle.std.specs.Prelude.{◌≡◌, ℕ, Option, None, Some, ⊥}
+use Rattle.std.specs.Prelude.{◌≡◌, ℕ, Option, None, Some}
 use Rattle.term_core.specs.declared.terms.Term.{Term}
 use Rattle.prog_data.specs.declared.programs.Program.{Program}
 use Rattle.term_heap.specs.declared.cells.Cell.{Cell}

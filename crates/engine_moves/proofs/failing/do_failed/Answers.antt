@@ -8,6 +8,6 @@ pub returns-in-None : goal.returns-in-None
 returns-in-None c = λ bound.
     none_left c.relied_law.ensures c.args.reading bound c.args.engine.now c.go_back.new.self c.args.told.now.items c.in-None.ensures.program c.in-None.ensures.back c.requires.none
 
-pub returns-in-Some : goal.returns-in-Some
-returns-in-Some c = λ bound.
-    gone_on c.relied_law.ensures c.args.reading bound c.args.engine.now c.go_back.new.self c.take_up.new.engine c.in-Some.alternative _ c.in_ok-turn.turn.tests c.in_ok-turn.turn.stage c.requires.whole c.in-Some.ensures.back (c.in_ok-turn.ensures bound)
+pub returns-in_ok-turn-in-Some : goal.returns-in_ok-turn-in-Some
+returns-in_ok-turn-in-Some c = λ bound.
+    gone_on c.relied_law.ensures c.args.reading bound c.args.engine.now c.go_back.new.self c.take_up.new.engine c.in-Some.alternative _ c.in_ok-turn-in-Some.turn.tests c.in_ok-turn-in-Some.turn.stage c.requires.whole c.in-Some.ensures.back (c.in_ok-turn-in-Some.ensures bound)

@@ -1,5 +1,7 @@
 use Rattle.std.proofs.Common.{map, sym, subst}
 use Rattle.prog_data.specs.declared.events.Event.TheVariants.{Broken}
+use Rattle.engine_state.specs.declared.points.Alternative.TheVariants as alternative
+use Rattle.engine_state.specs.declared.stages.Stage.TheVariants as stage
 use Rattle.engine_state.specs.Turns.{back_state}
 use Rattle.engine_moves.specs.Turned.{HasTurned}
 use Rattle.engine_moves.specs.Tries.{IsToTry}
@@ -17,19 +19,20 @@ pub returns-in-Resumes : goal.returns-in-Resumes
 returns-in-Resumes c = λ bound.
     let e = c.args.engine.now in
     let rest = c.in-Resumes.rest in
-    subst (λ a. HasTurned c.args.reading bound e (back_state e a) (map Broken c.args.told.now.items) 0 e _) (sym c.in-Resumes.is)
+    subst (λ a. HasTurned c.args.reading bound e (back_state e a) (map Broken c.args.told.now.items) 0 e (stage.Doing rest)) (sym c.in-Resumes.is)
     (resumed c.relied_law.ensures c.args.reading bound e rest c.args.told.now.items c.requires.none (subst (IsBackAt e) c.in-Resumes.is c.requires.back))
 
-pub returns-in-Retries : goal.returns-in-Retries
-returns-in-Retries c = λ bound.
+pub returns-in_ok-turn-in-Retries : goal.returns-in_ok-turn-in-Retries
+returns-in_ok-turn-in-Retries c = λ bound.
     let e = c.args.engine.now in
-    subst (λ a. HasTurned c.args.reading bound e (back_state e a) (map Broken c.args.told.now.items) c.in_ok-turn.turn.tests c.try_clause.new.engine c.in_ok-turn.turn.stage) (sym c.in-Retries.is)
-    (clause_tried c.args.reading bound e c.try_clause.new.engine c.in-Retries.next _ c.in-Retries.pending c.args.told.now.items c.in_ok-turn.turn.tests c.in_ok-turn.turn.stage c.requires.none (subst (IsBackAt e) c.in-Retries.is c.requires.back)
-    (c.in_ok-turn.ensures bound))
+    subst (λ a. HasTurned c.args.reading bound e (back_state e a) (map Broken c.args.told.now.items) c.in_ok-turn-in-Retries.turn.tests c.try_clause.new.engine c.in_ok-turn-in-Retries.turn.stage) (sym c.in-Retries.is)
+    (clause_tried c.args.reading bound e c.try_clause.new.engine c.in-Retries.next _ c.in-Retries.pending c.args.told.now.items c.in_ok-turn-in-Retries.turn.tests c.in_ok-turn-in-Retries.turn.stage c.requires.none (subst (IsBackAt e) c.in-Retries.is c.requires.back)
+    (c.in_ok-turn-in-Retries.ensures bound))
 
-pub returns-in-Marks : goal.returns-in-Marks
-returns-in-Marks c = λ bound.
+pub returns-in_ok-counted-in-Marks : goal.returns-in_ok-counted-in-Marks
+returns-in_ok-counted-in-Marks c = λ bound.
     let e = c.args.engine.now in
-    let counted = c.in_ok-counted.counted in
-    subst (λ a. HasTurned c.args.reading bound e (back_state e a) (map Broken c.test_mark.new.told.items) counted.tests e _) (sym c.in-Marks.is)
-    (mark_tested c.relied_law.ensures c.args.reading bound e _ c.in-Marks.conds c.in-Marks.exited (subst (IsBackAt e) c.in-Marks.is c.requires.back) c.args.told.now.items c.test_mark.new.told.items counted.tests counted.ended c.requires.none c.in_ok-counted.ensures)
+    let counted = c.in_ok-counted-in-Marks.counted in
+    subst (λ a. HasTurned c.args.reading bound e (back_state e a) (map Broken c.test_mark.new.told.items) counted.tests e c.failed_unless.result) (sym c.in-Marks.is)
+    (subst (λ st. HasTurned c.args.reading bound e (back_state e (alternative.Marks c.in-Marks.field-0 c.in-Marks.conds c.in-Marks.exited)) (map Broken c.test_mark.new.told.items) counted.tests e st) (sym c.failed_unless.ensures)
+    (mark_tested c.relied_law.ensures c.args.reading bound e _ c.in-Marks.conds c.in-Marks.exited (subst (IsBackAt e) c.in-Marks.is c.requires.back) c.args.told.now.items c.test_mark.new.told.items counted.tests counted.ended c.requires.none c.in_ok-counted-in-Marks.ensures))
