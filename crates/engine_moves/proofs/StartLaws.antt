@@ -165,7 +165,7 @@ module _ (found : LeanerStatesAreFound) (program : Program) (is : IsProgram prog
       let arity : (pred_of program pred).arity ≡ length (parts_of (out-Term query)) = arity_is (pred_of program pred) (out-Term query) found_pred.1 in
       record {
         there = lt_of pred (length program.preds) found_pred.0;
-        count = sym (arity ∙ ap length parts_are ∙ length-map value (places row.first row.count) ∙ length-places row.first row.count);
+        count = sym (arity ∙ ap length parts_are ∙ length-map (places row.first row.count) value ∙ length-places row.first row.count);
         within = row_within (size_of changes) its_cell (names_in changes root made there);
       }
 
