@@ -1,8 +1,16 @@
+mod AnswerLaws
 mod CallLaws
+mod ClauseRanges
+mod EnterLaws
 mod ExitLaws
+mod FailureLaws
 mod GoingOn
+mod HeapLaws
 mod LinkLaws
 mod LookingLaws
+mod MadeTurns
 mod NotesTaken
 mod NotingLaws
+mod StartLaws
+mod TryLaws
 mod TurnLaws

@@ -1,6 +1,11 @@
+pub mod Answers
 pub mod Calling
 pub mod Exiting
+pub mod Failures
 pub mod Linked
 pub mod Looking
 pub mod Readings
+pub mod Relied
+pub mod Starts
+pub mod Tries
 pub mod Turned
