@@ -1,2 +1,4 @@
+pub mod BuiltinEffects
 pub mod Readings
+pub mod SamePairs
 pub mod Turned

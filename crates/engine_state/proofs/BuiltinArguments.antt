@@ -189,7 +189,8 @@ bare_ready e b (t ∷ ts) s none due = absurd (omega (arith, none))
 
 -- arguments that were put into cells
 
-first_goal : List Item → Goal
+-- the first goal of items
+abbrev first_goal : List Item → Goal
 first_goal (Does g h place ∷ items) = g
 first_goal other = goal.Fail
 

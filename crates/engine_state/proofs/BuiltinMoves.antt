@@ -325,8 +325,8 @@ module _ (found : LeanerStatesAreFound) (e : code.Engine) (b : Builtin) (args : 
 
 module _ (tells : LeanerTellsTheSame) (found : LeanerStatesAreFound) where
   before_told : (what : Tests) (program : Program) (bound : ℕ) → IsProgram program → (s s' : State) (events : List Event) (p : Option Phase) → IsLeaner program s s' → IsUntestedMove what program bound s' events p → IsUntestedMove what program bound s events p
-  before_told what program bound ok s s' events None same move = move
-  before_told what program bound ok s s' events (Some p) same move = (leaners_move tells found what program bound ok).before s s' (record { events = events; tests = 0; phase = p }) same move
+  before_told what prog bound ok s s' events None same move = move
+  before_told what prog bound ok s s' events (Some p) same move = (leaners_move tells found what prog bound ok).before s s' (record { events = events; tests = 0; phase = p }) same move
 
   pub has_loaded : (old : code.Engine) (from : State) (b : Builtin) (args : Row) (s : Setting) (mid new : code.Engine) (events : List Event) (to : code_stage.Stage) → HasArguments old from b args s mid → HasDone mid (builtin_state mid b args s) events new to → HasDone old from events new to
   has_loaded old from b args s mid new events to has done =
@@ -340,8 +340,8 @@ module _ (tells : LeanerTellsTheSame) (found : LeanerStatesAreFound) where
 
 -- a number that was put into a cell
 
-number_there : (old new : History) (base y : ℕ) (n : ℤ) → HasLoaded old base (term.Int n ∷ []) y new → value_of new.changes y ≡ term.Int n
-number_there old new base y n loaded =
+number_there : (old later : History) (base y : ℕ) (n : ℤ) → HasLoaded old base (term.Int n ∷ []) y later → value_of later.changes y ≡ term.Int n
+number_there old later base y n loaded =
     ap (λ xs. slice_index_or xs 0 (term.Int n)) loaded.are_terms ∙ fold-Int Term (instance_step (from_base (value_of old.changes) base)) n
 
 module _ (single : (es : List Equation) → HasOneOutcome es) (tells : LeanerTellsTheSame) (found : LeanerStatesAreFound) where
