@@ -1,0 +1,3 @@
+mod BuiltinTurns
+mod KindLaws
+mod SameLaws
