@@ -1,24 +1,25 @@
 -- Turns of built-ins.
 use Rattle.std.proofs.Common.{◌≡◌, ◌≤◌, ◌+◌, ◌++◌, ℕ, List, [], ◌∷◌, length, Option, None, Some, refl, sym, ap, ◌∙◌, subst, arith, true, true≢false}
-use Rattle.std.specs.Prelude.{ℤ, Bool, ◌==◌}
+use Rattle.std.specs.Prelude.{ℤ, Bool}
 use Rattle.std.proofs.lemmas.List.{length-append}
 use Rattle.term_core.specs.declared.terms.Term.{Term, Int}
-use Rattle.term_core.specs.Terms.{occurs, occurs_step}
+use Rattle.term_core.specs.Terms.{occurs_step}
 use Rattle.term_core.proofs.TermFolds.{fold-Int}
 use Rattle.prog_data.specs.declared.programs.Program.{Program}
 use Rattle.prog_data.specs.declared.events.Event.{Event}
 use Rattle.machine_model.specs.State.{State, Phase}
 use Rattle.machine_model.specs.Tests.{Tests}
-use Rattle.term_heap.specs.Changes.{Change, History, undone}
+use Rattle.term_heap.specs.Changes.{History, Grows, size_of, next_serial, undone}
 use Rattle.term_heap.specs.PastStays.{GoesOn}
-use Rattle.term_heap.specs.Loads.{IsPlaced}
+use Rattle.term_heap.specs.Loads.{IsPlaced, HasLoaded}
 use Rattle.term_heap.proofs.HistoryLaws.{undone_here}
-use Rattle.term_heap.proofs.PastLaws.{lengths_stay}
+use Rattle.term_heap.proofs.PastLaws.{lengths_stay, sizes_stay}
 use Rattle.engine_state.specs.declared.engine.Engine as code
 use Rattle.engine_state.specs.declared.stages.Stage as code_stage
 use Rattle.engine_state.specs.Stages.{phase_of}
 use Rattle.engine_state.specs.BuiltinMoves.{IsUntestedMove, HasDone}
 use Rattle.engine_moves.specs.declared.readings.Reading.{Reading}
+use Rattle.engine_moves.specs.BuiltinEffects.{events_of}
 use Rattle.engine_moves.specs.Readings.{tests_by}
 use Rattle.engine_moves.specs.Turned.{IsMoveTo, HasTurned}
 
@@ -49,3 +50,15 @@ longer old new on = omega (arith, ap length on.is_new, length-append on.more old
 pub undone_there : (old new : History) (n : ℕ) → n ≡ length old.changes → GoesOn old new → undone n new.changes ≡ old.changes
 undone_there old new n is on =
     ap (undone n) on.is_new ∙ lengths_stay n on.more old.changes (omega (arith, is)) ∙ undone_here n old.changes (omega (arith, is))
+
+-- a heap that grew
+pub loaded_more : (old new : History) (base at : ℕ) (ts : List Term) → HasLoaded old base ts at new → size_of old.changes ≤ size_of new.changes
+loaded_more old new base at ts loaded =
+    let is : new.changes ≡ Grows loaded.cells (next_serial old.last) ∷ old.changes = ap (λ h. h.changes) loaded.is_new in
+    subst (λ cs. size_of old.changes ≤ size_of cs) (sym is) (sizes_stay (Grows loaded.cells (next_serial old.last) ∷ []) old.changes)
+
+-- a turn that tells nothing
+pub quiet_turn : (old new made : code.Engine) (from : State) (to stage : code_stage.Stage) (event : Option Event) → new ≡ made → stage ≡ to → event ≡ None → HasDone old from [] made to → HasDone old from (events_of event) new stage
+quiet_turn old new made from to stage event engine stages none done =
+    subst (λ e. HasDone old from (events_of event) e stage) (sym engine)
+    (subst (λ s. HasDone old from (events_of event) made s) (sym stages) (subst (λ x. HasDone old from (events_of x) made to) (sym none) done))
