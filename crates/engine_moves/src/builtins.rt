@@ -52,9 +52,7 @@ fn do_ready<'p>(
     match effect {
         Effect::Succeeds => Ok(quiet(Stage::Doing(setting.rest))),
         Effect::Fails => Ok(quiet(Stage::Failed)),
-        Effect::Faults(kind) => {
-            Ok(quiet(Stage::Over(Ending::Arithmetic(kind, setting.place))))
-        }
+        Effect::Faults(kind) => { Ok(quiet(Stage::Over(Ending::Arithmetic(kind, setting.place)))) }
         Effect::Writes(text) => Ok(BuiltinTurn {
             stage: Stage::Doing(setting.rest),
             event: Some(Event::Out(text)),

@@ -41,11 +41,7 @@ impl Comparison {
 }
 
 // The value of the term of a place, or its first fault.
-fn value_at(
-    alloc: Global,
-    heap: &Heap,
-    place: u64,
-) -> Result<Result<i64, ArithKind>, NoMemory>
+fn value_at(alloc: Global, heap: &Heap, place: u64) -> Result<Result<i64, ArithKind>, NoMemory>
     requires { place < size_of heap.now.changes }
     ensures { IfOk result (λ number. number ≡ value (value_of heap.now.changes place)) }
 {

@@ -52,12 +52,7 @@ fn renumbered(alloc: Global, variables: &[u64], term: &Term) -> Result<Term, NoM
 }
 
 // The text of a term, its variables numbered.
-fn text_of(
-    alloc: Global,
-    program: &Program,
-    term: &Term,
-    quoted: bool,
-) -> Result<Text, NoMemory>
+fn text_of(alloc: Global, program: &Program, term: &Term, quoted: bool) -> Result<Text, NoMemory>
     ensures { IfOk result (λ text. text ≡ Printed program.now.names program.now.ops quoted (numbered term.now)) }
 {
     let variables = vars(alloc, term)?;
