@@ -19,7 +19,7 @@ use Rattle.engine_state.specs.declared.stages.Stage as code_stage
 use Rattle.engine_state.specs.Stages.{phase_of}
 use Rattle.engine_state.specs.BuiltinMoves.{IsUntestedMove, HasDone}
 use Rattle.engine_moves.specs.declared.readings.Reading.{Reading}
-use Rattle.engine_moves.specs.BuiltinEffects.{events_of}
+use Rattle.engine_moves.specs.Texts.{events_of}
 use Rattle.engine_moves.specs.Readings.{tests_by}
 use Rattle.engine_moves.specs.Turned.{IsMoveTo, HasTurned}
 
@@ -58,7 +58,7 @@ loaded_more old new base at ts loaded =
     subst (λ cs. size_of old.changes ≤ size_of cs) (sym is) (sizes_stay (Grows loaded.cells (next_serial old.last) ∷ []) old.changes)
 
 -- a turn that tells nothing
-pub quiet_turn : (old new made : code.Engine) (from : State) (to stage : code_stage.Stage) (event : Option Event) → new ≡ made → stage ≡ to → event ≡ None → HasDone old from [] made to → HasDone old from (events_of event) new stage
-quiet_turn old new made from to stage event engine stages none done =
-    subst (λ e. HasDone old from (events_of event) e stage) (sym engine)
-    (subst (λ s. HasDone old from (events_of event) made s) (sym stages) (subst (λ x. HasDone old from (events_of x) made to) (sym none) done))
+pub quiet_turn : (old new made : code.Engine) (from : State) (to stage : code_stage.Stage) (text : Option (List ℕ)) → new ≡ made → stage ≡ to → text ≡ None → HasDone old from [] made to → HasDone old from (events_of text) new stage
+quiet_turn old new made from to stage text engine stages none done =
+    subst (λ e. HasDone old from (events_of text) e stage) (sym engine)
+    (subst (λ s. HasDone old from (events_of text) made s) (sym stages) (subst (λ x. HasDone old from (events_of x) made to) (sym none) done))

@@ -7,7 +7,11 @@ use Rattle.term_heap.specs.declared.cells.Cell.{Cell}
 use Rattle.term_heap.specs.declared.cells.Cell.TheVariants as cell
 use Rattle.term_heap.specs.Changes.{Change, value_of, size_of, cells_of, cell_at, cell_term, places, IsMade, IsEnd}
 use Rattle.term_heap.proofs.ValueLaws.{fits}
-use Rattle.engine_moves.specs.BuiltinEffects.{IsCellOf}
+use Rattle.term_core.specs.Terms.{is_variable}
+use Rattle.term_core.specs.Shapes.{is_atom}
+use Rattle.machine_model.specs.Step.{is_integer}
+use Rattle.unify_core.specs.Meets.{is_free}
+use Rattle.engine_moves.specs.BuiltinEffects.{IsCellOf, is_integer_cell, is_atom_cell}
 
 -- the cell at the end of references
 pub end_says : (h : List Change) (place root : ℕ) (c : Cell) → IsMade h → root < size_of h → IsEnd (cell_at (cells_of h) root) → value_of h root ≡ value_of h place → c ≡ cell_at (cells_of h) root → IsCellOf h place c
@@ -29,13 +33,32 @@ layer_is value at (cell.Atom a) = outs-Atom a
 layer_is value at (cell.Node f count first) = outs-Node f (map value (places first count))
 
 -- what a test of the outermost says of a place, by its cell
-pub test_at : (test : layer.Term-F Term → Bool) (h : List Change) (place : ℕ) (c : Cell) (says : IsCellOf h place c) → test (out-Term (value_of h place)) ≡ test (cell_layer (value_of h) says.root c)
+test_at : (test : layer.Term-F Term → Bool) (h : List Change) (place : ℕ) (c : Cell) (says : IsCellOf h place c) → test (out-Term (value_of h place)) ≡ test (cell_layer (value_of h) says.root c)
 test_at test h place c says = ap (λ t. test (out-Term t)) says.is ∙ ap test (layer_is (value_of h) says.root c)
 
 -- so by what the cell is
-pub at_cell : (test : layer.Term-F Term → Bool) (h : List Change) (place : ℕ) (c d : Cell) (says : IsCellOf h place c) → c ≡ d → test (cell_layer (value_of h) says.root d) ≡ test (out-Term (value_of h place))
+at_cell : (test : layer.Term-F Term → Bool) (h : List Change) (place : ℕ) (c d : Cell) (says : IsCellOf h place c) → c ≡ d → test (cell_layer (value_of h) says.root d) ≡ test (out-Term (value_of h place))
 at_cell test h place c d says is = ap (λ x. test (cell_layer (value_of h) says.root x)) (sym is) ∙ sym (test_at test h place c says)
 
--- it is no reference
-pub at_reference : (h : List Change) (place : ℕ) (c : Cell) (to : ℕ) → IsCellOf h place c → c ≡ cell.Ref to → ⊥
-at_reference h place c to says is = subst IsEnd is says.ends
+-- the tests of kinds
+
+pub integer_at : (h : List Change) (place : ℕ) (c : Cell) → IsCellOf h place c → is_integer_cell c ≡ is_integer (out-Term (value_of h place))
+integer_at h place cell.Free says = at_cell is_integer h place cell.Free cell.Free says refl
+integer_at h place (cell.Ref to) says = absurd says.ends
+integer_at h place (cell.Int n) says = at_cell is_integer h place (cell.Int n) (cell.Int n) says refl
+integer_at h place (cell.Atom a) says = at_cell is_integer h place (cell.Atom a) (cell.Atom a) says refl
+integer_at h place (cell.Node f count first) says = at_cell is_integer h place (cell.Node f count first) (cell.Node f count first) says refl
+
+pub atom_at : (h : List Change) (place : ℕ) (c : Cell) → IsCellOf h place c → is_atom_cell c ≡ is_atom (out-Term (value_of h place))
+atom_at h place cell.Free says = at_cell is_atom h place cell.Free cell.Free says refl
+atom_at h place (cell.Ref to) says = absurd says.ends
+atom_at h place (cell.Int n) says = at_cell is_atom h place (cell.Int n) (cell.Int n) says refl
+atom_at h place (cell.Atom a) says = at_cell is_atom h place (cell.Atom a) (cell.Atom a) says refl
+atom_at h place (cell.Node f count first) says = at_cell is_atom h place (cell.Node f count first) (cell.Node f count first) says refl
+
+pub variable_at : (h : List Change) (place : ℕ) (c : Cell) → IsCellOf h place c → is_free c ≡ is_variable (out-Term (value_of h place))
+variable_at h place cell.Free says = at_cell is_variable h place cell.Free cell.Free says refl
+variable_at h place (cell.Ref to) says = absurd says.ends
+variable_at h place (cell.Int n) says = at_cell is_variable h place (cell.Int n) (cell.Int n) says refl
+variable_at h place (cell.Atom a) says = at_cell is_variable h place (cell.Atom a) (cell.Atom a) says refl
+variable_at h place (cell.Node f count first) says = at_cell is_variable h place (cell.Node f count first) (cell.Node f count first) says refl

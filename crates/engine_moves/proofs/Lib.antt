@@ -1,3 +1,4 @@
 mod BuiltinTurns
+mod BuiltinWork
 mod KindLaws
 mod SameLaws

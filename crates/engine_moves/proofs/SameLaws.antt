@@ -1,8 +1,8 @@
 -- Pairs of places whose terms are to be the same.
-use Rattle.std.proofs.Common.{◌≡◌, ◌<◌, ◌≤◌, ℕ, zero, suc, ◌+◌, Bool, true, false, ◌&&◌, ◌==◌, List, [], ◌∷◌, ◌++◌, map, reverse, refl, sym, ap, ◌∙◌, subst, arith, true≢false}
+use Rattle.std.proofs.Common.{◌≡◌, ◌<◌, ◌≤◌, ◌⊎◌, inl, inr, ℕ, zero, suc, ◌+◌, Bool, true, false, ◌&&◌, ◌==◌, List, [], ◌∷◌, ◌++◌, map, reverse, refl, sym, ap, ◌∙◌, subst, arith, true≢false}
 use Rattle.std.specs.List.{list_all, AllByRecursion}
 use Rattle.std.specs.Ordering.{int_eq}
-use Rattle.std.proofs.lemmas.Bool.{and_parts, eq-eqb, ne_eqb, eqb-true}
+use Rattle.std.proofs.lemmas.Bool.{and_parts, eq-eqb, ne_eqb, eqb-true, cases_eq}
 use Rattle.std.proofs.lemmas.Bool.Decides.{Decides-int_eq}
 use Rattle.std.proofs.lemmas.List.{append_assoc, reverse-append}
 use Rattle.term_core.specs.declared.terms.Term.{Term, out-Term}
@@ -63,14 +63,24 @@ same_itself = ind_terms (λ t. same t t ≡ true)
     (λ a. ap (λ f. f (term.Atom a)) (fold-Atom (Term → Bool) same_step a) ∙ ap (is_atom_of a) (outs-Atom a) ∙ eq-eqb a a refl)
     (λ f ts h. ap (λ x. x (term.Node f ts)) (fold-Node (Term → Bool) same_step f ts) ∙ ap (is_node_of f (map same ts)) (outs-Node f ts) ∙ (λ i. eq-eqb f f refl i && rows_itself ts h i))
 
+-- numbers that are one more
+
+eqb_suc : (m n : ℕ) → (suc m == suc n) ≡ (m == n)
+eqb_suc m n = by_number (cases_eq m n) where
+  by_number : (m ≡ n) ⊎ (m ≡ n → ⊥) → (suc m == suc n) ≡ (m == n)
+  by_number (inl e) = eq-eqb (suc m) (suc n) (ap suc e) ∙ sym (eq-eqb m n e)
+  by_number (inr ne) = ne_eqb (suc m) (suc n) (λ e. ne (omega (arith, e))) ∙ sym (ne_eqb m n ne)
+
 -- two cells
 
 module _ (value : ℕ → Term) where
   rows_paired : (m n p q : ℕ) → pairwise (map same (map value (places p m))) (map value (places q n)) ≡ ((m == n) && are_same value (paired p q m))
   rows_paired zero zero p q = refl
-  rows_paired zero (suc n) p q = refl
-  rows_paired (suc m) zero p q = refl
-  rows_paired (suc m) (suc n) p q = ap (λ b. same (value p) (value q) && b) (rows_paired m n (suc p) (suc q)) ∙ and_past (same (value p) (value q)) (m == n) (are_same value (paired (suc p) (suc q) m))
+  rows_paired zero (suc n) p q = sym (ap (λ b. b && are_same value (paired p q zero)) (ne_eqb zero (suc n) (λ e. omega (arith, e))))
+  rows_paired (suc m) zero p q = sym (ap (λ b. b && are_same value (paired p q (suc m))) (ne_eqb (suc m) zero (λ e. omega (arith, e))))
+  rows_paired (suc m) (suc n) p q =
+      ap (λ b. same (value p) (value q) && b) (rows_paired m n (suc p) (suc q)) ∙ and_past (same (value p) (value q)) (m == n) (are_same value (paired (suc p) (suc q) m))
+      ∙ ap (λ b. b && are_same value (paired p q (suc m))) (sym (eqb_suc m n))
 
   at_var : (v : ℕ) (t : Term) → same (term.Var v) t ≡ is_var_of v (out-Term t)
   at_var v t = ap (λ f. f t) (fold-Var (Term → Bool) same_step v)
@@ -201,8 +211,8 @@ met_once h left right root before one other =
     let terms : same (value_of h left) (value_of h right) ≡ true = ap (same (value_of h left)) (sym other ∙ one) ∙ same_itself (value_of h left) in
     record {
       same_are = ap (λ b. b && are_same (value_of h) before) terms;
-      lighter = λ is. let positive = size_pos (value_of h left) in omega (arith, positive);
-      places = λ is all. all;
+      lighter = omega (arith, size_pos (value_of h left));
+      places = λ all. all;
     }
 
 module _ (h : List Change) (made : IsMade h) (left right x y : ℕ) (ne : x ≡ y → ⊥) (x_in : x < size_of h) (y_in : y < size_of h) (x_end : IsEnd (cell_at (cells_of h) x)) (y_end : IsEnd (cell_at (cells_of h) y))
@@ -230,11 +240,11 @@ module _ (h : List Change) (made : IsMade h) (left right x y : ℕ) (ne : x ≡ 
     same_are = ap (λ b. b && are_same value before) (terms_are ∙ ap (λ b. b && are_same value parts) agreed) ∙ and_turned (are_same value parts) (are_same value before)
         ∙ ap (λ b. are_same value before && b) (sym (all-reverse (λ p. same (value p.left) (value p.right)) parts))
         ∙ sym (all-append (λ p. same (value p.left) (value p.right)) before (reverse parts)) ∙ ap (are_same value) (sym is);
-    lighter = λ yes.
+    lighter =
         let less : weight value parts < size (value left) = subst (λ t. weight value parts < size t) (sym left_is) (parts_smaller value x c d) in
         let sum : weight value after ≡ weight value before + weight value (reverse parts) = ap (weight value) is ∙ weight-append value before (reverse parts) in
         omega (arith, less, sum, weight-reverse value parts);
-    places = λ yes all.
+    places = λ all.
         let in_x : first_of c + count_of c ≤ size_of h = block_in (size_of h) c (names_in h x made x_in) in
         let in_y : first_of d + count_of d ≤ size_of h = block_in (size_of h) d (names_in h y made y_in) in
         let counts : count_of c ≡ count_of d = same_count c d agreed in
@@ -242,16 +252,16 @@ module _ (h : List Change) (made : IsMade h) (left right x y : ℕ) (ne : x ≡ 
         (all_joined _ before (reverse parts) all (all_turned _ parts (paired_in (size_of h) (first_of c) (first_of d) (count_of c) in_x (omega (arith, in_y, counts)))));
   }
 
-  met_apart : (after : List Pair) → agrees c d ≡ false → HasMet h left right before false after
-  met_apart after apart = record {
+  met_apart : (after : List Pair) → agrees c d ≡ false → after ≡ before → HasMet h left right before false after
+  met_apart after apart is = record {
     same_are = ap (λ b. b && are_same value before) (terms_are ∙ ap (λ b. b && are_same value parts) apart);
-    lighter = λ yes. absurd (true≢false (sym yes));
-    places = λ yes all. absurd (true≢false (sym yes));
+    lighter = omega (arith, size_pos (value left), ap (weight value) is);
+    places = λ all. subst (ArePlaces (size_of h)) (sym is) all;
   }
 
   pub met_compared : (met : Bool) (after : List Pair) → Compared c d before met after → HasMet h left right before met after
   met_compared true after compared = met_agreed after compared.0 compared.1
-  met_compared false after compared = met_apart after compared.0
+  met_compared false after compared = met_apart after compared.0 compared.1
 
 -- the pairs that are left
 

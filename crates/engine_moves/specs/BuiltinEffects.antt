@@ -1,14 +1,14 @@
 -- What is to be done for a built-in, and what was done with places.
 -- The headline does not rest on this file.
-use Rattle.std.specs.Prelude.{◌≡◌, ◌<◌, ℕ, ℤ, int_lt, int_le, Bool, not, List, [], ◌∷◌, Option, None, Some, ⊤}
+use Rattle.std.specs.Prelude.{◌≡◌, ◌<◌, ℕ, ℤ, int_lt, int_le, Bool, true, false, not, List, [], ◌∷◌, ⊤}
 use Rattle.std.specs.Ordering.{int_eq}
 use Rattle.term_core.specs.declared.terms.Term.{Term}
 use Rattle.term_core.specs.declared.terms.Term as term
 use Rattle.prog_data.specs.declared.goals.Builtin.TheVariants as builtin
 use Rattle.prog_data.specs.declared.goals.Goal as goal
-use Rattle.prog_data.specs.declared.events.Event.{Event}
 use Rattle.machine_model.specs.Step.{Effect, Succeeds, Fails, Writes, Equates, Becomes, Faults}
 use Rattle.term_heap.specs.declared.cells.Cell.{Cell}
+use Rattle.term_heap.specs.declared.cells.Cell.TheVariants as cell
 use Rattle.term_heap.specs.Changes.{Change, History, size_of, value_of, cell_term, IsEnd}
 use Rattle.term_heap.specs.Loads.{HasLoaded}
 use Rattle.unify_core.specs.Unifies.{HasUnified}
@@ -54,16 +54,21 @@ test_of comparison.GreaterEq x y = int_le y x
 test_of comparison.Equal x y = int_eq x y
 test_of comparison.NotEqual x y = not (int_eq x y)
 
--- the events of a built-in that tells one, or none
-abbrev pub events_of : Option Event → List Event
-events_of None = []
-events_of (Some e) = e ∷ []
-
 -- a cell is no reference, and says what the term of a place is
 pub record IsCellOf (h : List Change) (place : ℕ) (c : Cell) : Type 0 where
   pub root : ℕ
   pub is : value_of h place ≡ cell_term (value_of h) root c
   pub ends : IsEnd c
+
+-- whether a cell has an integer
+abbrev pub is_integer_cell : Cell → Bool
+is_integer_cell (cell.Int n) = true
+is_integer_cell other = false
+
+-- whether it has an atom
+abbrev pub is_atom_cell : Cell → Bool
+is_atom_cell (cell.Atom a) = true
+is_atom_cell other = false
 
 -- two places of an engine were unified
 pub record HasUnifiedPlaces (old : code.Engine) (x y : ℕ) (u : Unified) (new : code.Engine) : Type 0 where

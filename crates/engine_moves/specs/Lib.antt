@@ -1,4 +1,5 @@
 pub mod BuiltinEffects
 pub mod Readings
 pub mod SamePairs
+pub mod Texts
 pub mod Turned

@@ -35,5 +35,5 @@ Compared left right before false after = (agrees left right ≡ false) × (after
 -- two places were met: their terms, and those of the pairs before, are the same where they may be and the terms of the pairs after are
 pub record HasMet (h : List Change) (left right : ℕ) (before : List Pair) (met : Bool) (after : List Pair) : Type 0 where
   pub same_are : (same (value_of h left) (value_of h right) && are_same (value_of h) before) ≡ (met && are_same (value_of h) after)
-  pub lighter : met ≡ true → weight (value_of h) after < size (value_of h left) + weight (value_of h) before
-  pub places : met ≡ true → ArePlaces (size_of h) before → ArePlaces (size_of h) after
+  pub lighter : weight (value_of h) after < size (value_of h left) + weight (value_of h) before
+  pub places : ArePlaces (size_of h) before → ArePlaces (size_of h) after

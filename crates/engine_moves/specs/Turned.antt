@@ -1,6 +1,6 @@
 -- What a turn of an engine promises, by what is tested.
 -- The headline does not rest on this file.
-use Rattle.std.specs.Prelude.{◌≡◌, ◌-◌, ◌^◌, ℕ, min, List, Option, None, Some, ⊥}
+use Rattle.std.specs.Prelude.{◌≡◌, ◌-◌, ◌^◌, ℕ, min, List, Option, None, Some}
 use Rattle.prog_data.specs.declared.programs.Program.{Program}
 use Rattle.prog_data.specs.declared.events.Event.{Event}
 use Rattle.machine_model.specs.State.{State, Phase, Going}

@@ -4,7 +4,7 @@ ghost use Rattle.prog_data.specs.declared.goals.Goal as goal;
 ghost use Rattle.engine_state.specs.Stages.{goal_state, IsDue};
 ghost use Rattle.engine_state.specs.BuiltinMoves.{builtin_state, IsReady, HasDone};
 ghost use Rattle.engine_moves.specs.Turned.{HasTurned};
-ghost use Rattle.engine_moves.specs.BuiltinEffects.{events_of};
+ghost use Rattle.engine_moves.specs.Texts.{events_of};
 ghost use Rattle.engine_moves.specs.declared.readings.Reading.{Reading};
 
 mod comparing;
@@ -16,24 +16,24 @@ mod writing;
 
 use effects::{Effect, effect_of};
 use engine_state::{Engine, Row, Setting, Stage, builtin_moves_law};
-use prog_data::{Builtin, Ending, Event};
+use prog_data::{Builtin, Ending, Text};
 use std::alloc::Global;
 use term_core::{NoMemory, Term};
 use unifying::{differ, equate, equate_number, equated, refuted};
 
-/// Where a run went after a built-in, and the text that it wrote, as an event.
+/// Where a run went after a built-in, and the text that it wrote.
 #[derive(Drop)]
 pub struct BuiltinTurn<'p> {
     pub stage: Stage<'p>,
-    pub event: Option<Event>,
+    pub text: Option<Text>,
 }
 
 // A turn that tells nothing.
 fn quiet<'p>(stage: Stage<'p>) -> BuiltinTurn<'p>
     ensures stage { result.stage ≡ stage.entry }
-    ensures event { result.event ≡ None }
+    ensures text { result.text ≡ None }
 {
-    BuiltinTurn { stage, event: None }
+    BuiltinTurn { stage, text: None }
 }
 
 // Does a built-in whose arguments are in cells.
@@ -45,7 +45,7 @@ fn do_ready<'p>(
     setting: Setting,
 ) -> Result<BuiltinTurn<'p>, NoMemory>
     requires { IsReady engine.old builtin args setting }
-    ensures { IfOk result (λ turn. HasDone engine.old (builtin_state engine.old builtin args setting) (events_of turn.event) engine.new turn.stage) }
+    ensures { IfOk result (λ turn. HasDone engine.old (builtin_state engine.old builtin args setting) (events_of turn.text) engine.new turn.stage) }
 {
     builtin_moves_law();
     let effect = effect_of(alloc, engine.program, &engine.heap, builtin, args.first)?;
@@ -55,7 +55,7 @@ fn do_ready<'p>(
         Effect::Faults(kind) => { Ok(quiet(Stage::Over(Ending::Arithmetic(kind, setting.place)))) }
         Effect::Writes(text) => Ok(BuiltinTurn {
             stage: Stage::Doing(setting.rest),
-            event: Some(Event::Out(text)),
+            text: Some(text),
         }),
         Effect::Equates(left, right) => {
             let unified = equate(engine, alloc, left, right)?;
@@ -85,7 +85,7 @@ pub fn do_builtin<'p>(
     setting: Setting,
 ) -> Result<BuiltinTurn<'p>, NoMemory>
     requires { IsDue engine.old (goal.Builtin builtin args.now) setting }
-    ensures { (reading : Reading) (bound : ℕ) → IfOk result (λ turn. HasTurned reading bound engine.old (goal_state engine.old (goal.Builtin builtin args.now) setting) (events_of turn.event) 0 engine.new turn.stage) }
+    ensures { (reading : Reading) (bound : ℕ) → IfOk result (λ turn. HasTurned reading bound engine.old (goal_state engine.old (goal.Builtin builtin args.now) setting) (events_of turn.text) 0 engine.new turn.stage) }
 {
     builtin_moves_law();
     let row = engine.load_builtin(alloc, builtin, args, setting)?;

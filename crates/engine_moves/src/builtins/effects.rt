@@ -7,11 +7,12 @@ ghost use Rattle.machine_model.specs.Step.{truth, effect};
 ghost use Rattle.engine_moves.specs.BuiltinEffects.{HasEffect};
 
 use super::comparing::{differs_effect, same_effect};
-use super::kinds::{is_atom_at, is_integer_at, is_variable_at};
+use super::kinds::{
+    atom_effect, bound_effect, ground_effect, integer_effect, type_effect, variable_effect,
+};
 use super::numbers::{Comparison, compared, evaluated};
 use super::writing::{newline, written};
 use prog_data::{ArithKind, Builtin, Program, Text};
-use prop_check::{belongs_at, is_ground_at};
 use std::alloc::Global;
 use term_core::NoMemory;
 use term_heap::Heap;
@@ -71,14 +72,14 @@ pub(crate) fn effect_of(
         Builtin::GreaterEq => compared(alloc, heap, Comparison::GreaterEq, first),
         Builtin::NumEq => compared(alloc, heap, Comparison::Equal, first),
         Builtin::NumNotEq => compared(alloc, heap, Comparison::NotEqual, first),
-        Builtin::Integer => Ok(tested(is_integer_at(heap, first))),
-        Builtin::Atom => Ok(tested(is_atom_at(heap, first))),
+        Builtin::Integer => Ok(integer_effect(heap, first)),
+        Builtin::Atom => Ok(atom_effect(heap, first)),
         Builtin::Write => written(alloc, program, heap, first, false),
         Builtin::Writeq => written(alloc, program, heap, first, true),
         Builtin::Nl => newline(alloc),
-        Builtin::Belongs(name) => Ok(tested(belongs_at(&program.grammar, heap, name, first))),
-        Builtin::IsVar => Ok(tested(is_variable_at(heap, first))),
-        Builtin::IsNonvar => Ok(tested(!is_variable_at(heap, first))),
-        Builtin::IsGround => Ok(tested(is_ground_at(heap, first))),
+        Builtin::Belongs(name) => Ok(type_effect(&program.grammar, heap, name, first)),
+        Builtin::IsVar => Ok(variable_effect(heap, first)),
+        Builtin::IsNonvar => Ok(bound_effect(heap, first)),
+        Builtin::IsGround => Ok(ground_effect(heap, first)),
     }
 }

@@ -1,9 +1,9 @@
 // Values of arithmetic terms.
-ghost use Rattle.std.specs.Prelude.{◌≡◌, ◌≤◌, ◌<◌, ◌+◌, IfOk};
+ghost use Rattle.std.specs.Prelude.{◌≡◌, ◌≤◌, ◌<◌, ◌+◌, List, IfOk};
 ghost use Rattle.term_core.specs.declared.terms.Term.{Int};
 ghost use Rattle.prog_data.specs.Arithmetic.{value};
-ghost use Rattle.term_heap.specs.Changes.{size_of, value_of};
-ghost use Rattle.machine_model.specs.Step.{Equates, with_value, compare};
+ghost use Rattle.term_heap.specs.Changes.{Change, size_of, value_of};
+ghost use Rattle.machine_model.specs.Step.{Equates, truth, with_value, compare};
 ghost use Rattle.engine_moves.specs.BuiltinEffects.{HasEffect, test_of};
 
 use super::effects::{Effect, tested};
@@ -51,7 +51,24 @@ fn value_at(alloc: Global, heap: &Heap, place: u64) -> Result<Result<i64, ArithK
     Ok(number)
 }
 
-/// What a comparison of two values does, the left one taken first.
+// What a comparison does with two values or their faults, the left one first.
+fn decided(
+    comparison: Comparison,
+    one: Result<i64, ArithKind>,
+    other: Result<i64, ArithKind>,
+) -> Effect
+    ensures { (h : List Change) → HasEffect h (with_value (λ x. with_value (λ y. truth (test_of comparison x y)) other) one) result }
+{
+    match one {
+        Err(kind) => Effect::Faults(kind),
+        Ok(left) => match other {
+            Err(kind) => Effect::Faults(kind),
+            Ok(right) => tested(comparison.holds(left, right)),
+        },
+    }
+}
+
+/// What a comparison does with the values of two terms.
 pub(crate) fn compared(
     alloc: Global,
     heap: &Heap,
@@ -62,13 +79,9 @@ pub(crate) fn compared(
     ensures { IfOk result (HasEffect heap.now.changes (compare (test_of comparison) (value_of heap.now.changes first) (value_of heap.now.changes (first + 1)))) }
 {
     let _size = heap.len();
-    match value_at(alloc, heap, first)? {
-        Err(kind) => Ok(Effect::Faults(kind)),
-        Ok(left) => match value_at(alloc, heap, first + 1)? {
-            Err(kind) => Ok(Effect::Faults(kind)),
-            Ok(right) => Ok(tested(comparison.holds(left, right))),
-        },
-    }
+    let one = value_at(alloc, heap, first)?;
+    let other = value_at(alloc, heap, first + 1)?;
+    Ok(decided(comparison, one, other))
 }
 
 /// What `is` does with the term of a place and the value of the next one.
