@@ -1,4 +1,6 @@
 mod AnswerLaws
+mod BuiltinTurns
+mod BuiltinWork
 mod CallLaws
 mod ClauseRanges
 mod EnterLaws
@@ -6,11 +8,13 @@ mod ExitLaws
 mod FailureLaws
 mod GoingOn
 mod HeapLaws
+mod KindLaws
 mod LinkLaws
 mod LookingLaws
 mod MadeTurns
 mod NotesTaken
 mod NotingLaws
+mod SameLaws
 mod StartLaws
 mod TryLaws
 mod TurnLaws

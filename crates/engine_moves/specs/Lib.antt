@@ -1,4 +1,5 @@
 pub mod Answers
+pub mod BuiltinEffects
 pub mod Calling
 pub mod Exiting
 pub mod Failures
@@ -6,6 +7,8 @@ pub mod Linked
 pub mod Looking
 pub mod Readings
 pub mod Relied
+pub mod SamePairs
 pub mod Starts
+pub mod Texts
 pub mod Tries
 pub mod Turned

@@ -2,6 +2,7 @@
 #![tactic(auto)]
 
 mod answers;
+mod builtins;
 mod calls;
 mod exits;
 mod failing;
@@ -15,6 +16,7 @@ mod tries;
 mod turns;
 
 pub use answers::answer;
+pub use builtins::{BuiltinTurn, do_builtin};
 pub use calls::do_call;
 pub use exits::do_exit;
 pub use failing::do_failed;

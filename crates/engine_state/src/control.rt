@@ -128,11 +128,7 @@ impl<'p> Engine<'p> {
     /// # Errors
     ///
     /// Only for want of memory.
-    pub fn do_not(
-        &mut self,
-        negated: &'p Goal,
-        setting: Setting,
-    ) -> Result<Stage<'p>, NoMemory>
+    pub fn do_not(&mut self, negated: &'p Goal, setting: Setting) -> Result<Stage<'p>, NoMemory>
         requires { IsDue self.old (goal.Not negated.now) setting }
         ensures { IfOk result (λ stage. HasMoved self.old (goal_state self.old (goal.Not negated.now) setting) self.new stage) }
     {

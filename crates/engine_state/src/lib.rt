@@ -2,6 +2,7 @@
 #![tactic(auto)]
 
 mod backwards;
+mod builtin_loading;
 mod control;
 mod engine;
 mod findings;
@@ -15,6 +16,7 @@ mod points;
 mod stages;
 mod tasks;
 
+pub use builtin_loading::builtin_moves_law;
 pub use engine::Engine;
 pub use findings::{Counted, test_all};
 pub use laws::{
