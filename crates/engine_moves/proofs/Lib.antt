@@ -2,7 +2,7 @@ mod AnswerLaws
 mod BuiltinTurns
 mod BuiltinWork
 mod CallLaws
-mod ClauseRanges
+pub mod ClauseRanges
 mod EnterLaws
 mod ExitLaws
 mod FailureLaws
@@ -11,10 +11,9 @@ mod HeapLaws
 mod KindLaws
 mod LinkLaws
 mod LookingLaws
-mod MadeTurns
+pub mod MadeTurns
 mod NotesTaken
 mod NotingLaws
 mod SameLaws
-mod StartLaws
 mod TryLaws
 mod TurnLaws

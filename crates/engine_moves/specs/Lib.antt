@@ -8,7 +8,6 @@ pub mod Looking
 pub mod Readings
 pub mod Relied
 pub mod SamePairs
-pub mod Starts
 pub mod Texts
 pub mod Tries
 pub mod Turned

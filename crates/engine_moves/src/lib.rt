@@ -11,7 +11,6 @@ mod looking;
 mod noting;
 mod readings;
 mod relied;
-mod starting;
 mod tries;
 mod turns;
 
@@ -22,5 +21,5 @@ pub use exits::do_exit;
 pub use failing::do_failed;
 pub use links::{Due, do_link};
 pub use readings::Reading;
-pub use starting::{Start, start_engine};
+pub use relied::relied_law;
 pub use turns::Turn;

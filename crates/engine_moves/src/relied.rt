@@ -8,7 +8,7 @@ use engine_state::{
 use machine_model::leaner_states_law;
 
 // All of them together.
-pub(crate) fn relied_law()
+pub fn relied_law()
     ensures { Relied }
 {
     choices_law();
