@@ -21,10 +21,14 @@ pub struct Run<'p> {
 }
 
 impl<'p> Model for Run<'p> {
+    ghost use denote.Signature.{static_lft};
+    ghost use Rattle.sld_engine.specs.contracts.state.RunState.{the_row as state_row};
     ghost use Rattle.sld_engine.specs.declared.state.RunState.{RunState};
     ghost use Rattle.sld_engine.specs.Running.{IsRunning};
 
     ghost Value = { RunState };
+
+    ghost coded = { (state_row static_lft).coded };
 
     ghost view = { λ r. r.state };
 
