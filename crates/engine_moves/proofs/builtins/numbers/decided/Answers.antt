@@ -1,4 +1,4 @@
-use Rattle.std.proofs.Common.{FitsSigned, rules, sym, ap, subst, ◌∙◌, to_z, of_z}
+use Rattle.std.proofs.Common.{FitsSigned, rules, sym, ap, subst, ◌∙◌}
 use Rattle.std.specs.Int.{w64}
 use Rattle.std.proofs.lemmas.Int.{to_z-of_z}
 use Rattle.machine_model.specs.Step.{truth, with_value}
