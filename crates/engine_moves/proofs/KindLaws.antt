@@ -1,5 +1,6 @@
 -- Kinds of terms, by the cells of their places.
 use Rattle.std.proofs.Common.{◌≡◌, ◌<◌, ℕ, Bool, List, map, refl, sym, ap, ◌∙◌, subst}
+use Rattle.std.specs.Prelude.{ℤ, Ok}
 use Rattle.term_core.specs.declared.terms.Term.{Term, out-Term}
 use Rattle.term_core.specs.declared.terms.Term.TheOpen as layer
 use Rattle.term_core.specs.declared.terms.Term.TheVariants.{outs-Var, outs-Int, outs-Atom, outs-Node}
@@ -11,6 +12,8 @@ use Rattle.term_core.specs.Terms.{is_variable}
 use Rattle.term_core.specs.Shapes.{is_atom}
 use Rattle.machine_model.specs.Step.{is_integer}
 use Rattle.unify_core.specs.Meets.{is_free}
+use Rattle.term_core.proofs.TermFolds.{fold-Int}
+use Rattle.prog_data.specs.Arithmetic.{Number, value, value_step}
 use Rattle.engine_moves.specs.BuiltinEffects.{IsCellOf, is_integer_cell, is_atom_cell}
 
 -- the cell at the end of references
@@ -62,3 +65,7 @@ variable_at h place (cell.Ref to) says = absurd says.ends
 variable_at h place (cell.Int n) says = at_cell is_variable h place (cell.Int n) (cell.Int n) says refl
 variable_at h place (cell.Atom a) says = at_cell is_variable h place (cell.Atom a) (cell.Atom a) says refl
 variable_at h place (cell.Node f count first) says = at_cell is_variable h place (cell.Node f count first) (cell.Node f count first) says refl
+
+-- a number is its own value
+pub number_at : (h : List Change) (place : ℕ) (c : Cell) (n : ℤ) → IsCellOf h place c → c ≡ cell.Int n → value (value_of h place) ≡ Ok n
+number_at h place c n says is = ap value (says.is ∙ ap (cell_term (value_of h) says.root) is) ∙ fold-Int Number value_step n

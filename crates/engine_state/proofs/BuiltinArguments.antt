@@ -1,6 +1,6 @@
 -- Built-ins whose arguments are in cells, in an engine whose heap was changed.
-use Rattle.std.proofs.Common.{◌≡◌, ◌≤◌, ◌<◌, ◌+◌, ℕ, zero, suc, List, [], ◌∷◌, ◌++◌, map, reverse, length, refl, sym, ap, subst, ◌∙◌, arith}
-use Rattle.std.specs.Prelude.{Bool, true, false, nat_le, ◌==◌}
+use Rattle.std.proofs.Common.{◌≡◌, ◌≤◌, ◌<◌, ◌+◌, ℕ, zero, List, [], ◌∷◌, ◌++◌, map, reverse, length, refl, sym, ap, subst, ◌∙◌, arith}
+use Rattle.std.specs.Prelude.{Bool, true, false, ◌==◌}
 use Rattle.std.specs.List.{AllByRecursion, list_all}
 use Rattle.std.proofs.lemmas.Bool.{and_parts}
 use Rattle.std.proofs.lemmas.Bool.Decides.{nat_tests}
@@ -26,7 +26,7 @@ use Rattle.term_heap.proofs.ValueLaws.{map_places}
 use Rattle.engine_state.specs.declared.tasks.Row.{Row}
 use Rattle.engine_state.specs.declared.engine.Engine as code
 use Rattle.engine_state.specs.declared.stages.Setting.{Setting}
-use Rattle.engine_state.specs.Engines.{Task, Runs, choices_of, frame_with}
+use Rattle.engine_state.specs.Engines.{Task, Runs, choices_of}
 use Rattle.engine_state.specs.Views.{as_links, as_points}
 use Rattle.engine_state.specs.Moments.{HasMoments}
 use Rattle.engine_state.specs.Within.{AreTasksWithin, ArePointsWithin}

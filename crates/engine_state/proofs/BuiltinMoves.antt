@@ -8,7 +8,7 @@ use Rattle.term_core.specs.declared.equations.Binding.{Binding}
 use Rattle.term_core.specs.declared.equations.Equation.{Equation}
 use Rattle.term_core.specs.declared.equations.Outcome.{Outcome}
 use Rattle.term_core.specs.declared.equations.Outcome.TheVariants as outcome
-use Rattle.term_core.specs.Terms.{instance, instance_step}
+use Rattle.term_core.specs.Terms.{instance_step}
 use Rattle.term_core.specs.Unify.{Unified, values}
 use Rattle.term_core.specs.Solutions.{HasOneOutcome}
 use Rattle.term_core.proofs.TermFolds.{fold-Int}
@@ -24,12 +24,12 @@ use Rattle.prog_data.specs.declared.events.Event.TheVariants.{Out}
 use Rattle.prog_data.specs.Goals.{goal_instance}
 use Rattle.prog_data.specs.Programs.{IsProgram}
 use Rattle.prog_data.specs.Ranges.{arity_of}
-use Rattle.machine_model.specs.State.{Does, CutTo, Frame, Choice, Resume, Doing, Failed, State, Phase, Going, Over, frame_instance, item_instance, cut}
+use Rattle.machine_model.specs.State.{Does, CutTo, Frame, Choice, Resume, State, Phase, Going, Over, frame_instance, cut}
 use Rattle.machine_model.specs.Tests.{Tests, every_condition}
-use Rattle.machine_model.specs.Step.{Effect, Succeeds, Fails, Writes, Equates, Becomes, Faults, effect, frame_of, quietly, telling}
+use Rattle.machine_model.specs.Step.{Succeeds, Fails, Writes, Equates, Becomes, Faults, effect, frame_of, quietly, telling}
 use Rattle.machine_model.specs.Leaner.{IsLeaner}
-use Rattle.machine_model.specs.LeanerLaws.{LeanerTellsTheSame, LeanerStatesAreFound, AreBelow, IsDone, before_goal}
-use Rattle.term_heap.specs.Changes.{Change, Grows, History, size_of, value_of, places, next_serial, IsMade}
+use Rattle.machine_model.specs.LeanerLaws.{LeanerTellsTheSame, LeanerStatesAreFound, IsDone, before_goal}
+use Rattle.term_heap.specs.Changes.{Change, Grows, History, size_of, value_of, places, next_serial}
 use Rattle.term_heap.specs.Loads.{from_base, HasLoaded}
 use Rattle.unify_core.specs.Unifies.{HasUnified}
 use Rattle.unify_core.specs.declared.unifying.Unified as code_unified
@@ -42,9 +42,9 @@ use Rattle.engine_state.specs.declared.stages.Stage.TheVariants as stage
 use Rattle.engine_state.specs.Moves.{Makes, Moves}
 use Rattle.engine_state.specs.StepsMade.{failing, solved_phase, equation, effect_of}
 use Rattle.engine_state.specs.StepsMade as steps
-use Rattle.engine_state.specs.Stages.{choices_at, tasks_at, frame_now, doing, phase_of, IsKept, IsWhole}
+use Rattle.engine_state.specs.Stages.{choices_at, tasks_at, frame_now, doing, phase_of, IsKept}
 use Rattle.engine_state.specs.BuiltinMoves.{terms_at, builtin_state, effect_at, IsReady, HasArguments, IsUntestedMove, HasDone, equated_stage, refuted_stage, with_heap, AreUnified, BuiltinsMove}
-use Rattle.engine_state.proofs.BuiltinArguments.{more_cells, still_kept, same_choices, choices_below, tasks_there, query_still, same_values, same_terms, grown_ready}
+use Rattle.engine_state.proofs.BuiltinArguments.{still_kept, same_choices, choices_below, tasks_there, query_still, same_values, same_terms, grown_ready}
 use Rattle.engine_state.proofs.CellMoves.{cells_move}
 use Rattle.engine_state.proofs.Composing.{made_moves, onward, quiet_twice, moves_compose}
 use Rattle.engine_state.proofs.CutStays.{cuts_stay}

@@ -15,8 +15,8 @@ use prog_data::Grammar;
 use prop_check::{belongs_at, is_ground_at};
 use term_heap::{Cell, Heap};
 
-// The cell to which the references of a place lead.
-fn end_cell(heap: &Heap, place: u64) -> Cell
+/// The cell to which the references of a place lead.
+pub(crate) fn end_cell(heap: &Heap, place: u64) -> Cell
     requires { place < size_of heap.now.changes }
     ensures { IsCellOf heap.now.changes place result }
 {

@@ -7,11 +7,12 @@ ghost use Rattle.machine_model.specs.Step.{Equates, truth, with_value, compare};
 ghost use Rattle.engine_moves.specs.BuiltinEffects.{HasEffect, test_of};
 
 use super::effects::{Effect, tested};
+use super::kinds::end_cell;
 use arith_core::eval;
 use prog_data::ArithKind;
 use std::alloc::Global;
 use term_core::{NoMemory, discard};
-use term_heap::Heap;
+use term_heap::{Cell, Heap};
 
 /// How two numbers are compared.
 #[derive(Clone, Copy, Drop)]
@@ -40,8 +41,8 @@ impl Comparison {
     }
 }
 
-// The value of the term of a place, or its first fault.
-fn value_at(alloc: Global, heap: &Heap, place: u64) -> Result<Result<i64, ArithKind>, NoMemory>
+// The value of the term of a place, as a term. It follows the term by recursion, and so takes stack for its depth.
+fn decoded_value(alloc: Global, heap: &Heap, place: u64) -> Result<Result<i64, ArithKind>, NoMemory>
     requires { place < size_of heap.now.changes }
     ensures { IfOk result (λ number. number ≡ value (value_of heap.now.changes place)) }
 {
@@ -49,6 +50,21 @@ fn value_at(alloc: Global, heap: &Heap, place: u64) -> Result<Result<i64, ArithK
     let number = eval(&term);
     discard(term);
     Ok(number)
+}
+
+// The value of the term of a place, or its first fault. A number is taken as it is.
+fn value_at(alloc: Global, heap: &Heap, place: u64) -> Result<Result<i64, ArithKind>, NoMemory>
+    requires { place < size_of heap.now.changes }
+    ensures { IfOk result (λ number. number ≡ value (value_of heap.now.changes place)) }
+{
+    let cell = end_cell(heap, place);
+    match cell {
+        Cell::Int(number) => Ok(Ok(number)),
+        Cell::Free | Cell::Ref(_) | Cell::Atom(_) | Cell::Node(_, _, _) => {
+            let number = decoded_value(alloc, heap, place)?;
+            Ok(number)
+        }
+    }
 }
 
 // What a comparison does with two values or their faults, the left one first.

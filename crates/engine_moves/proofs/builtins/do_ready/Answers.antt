@@ -13,7 +13,7 @@ effect_of-requires-clause-places c = omega (arith, c.requires.enough, c.requires
 
 pub returns-in-Succeeds : goal.returns-in-Succeeds
 returns-in-Succeeds c = succeeded c.builtin_moves_law.ensures c.args.engine.now c.args.builtin c.args.args c.args.setting c.requires c.in_ok-effect.effect c.in_ok-effect.ensures
-    c.quiet-in-Succeeds.result.stage c.quiet-in-Succeeds.result.text c.quiet-in-Succeeds.ensures.text c.in-Succeeds.is c.quiet-in-Succeeds.ensures.stage
+    c.quiet.result.stage c.quiet.result.text c.quiet.ensures.text c.in-Succeeds.is c.quiet.ensures.stage
 
 pub returns-in-Fails : goal.returns-in-Fails
 returns-in-Fails c = failed c.builtin_moves_law.ensures c.args.engine.now c.args.builtin c.args.args c.args.setting c.requires c.in_ok-effect.effect c.in_ok-effect.ensures

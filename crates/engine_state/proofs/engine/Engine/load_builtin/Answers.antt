@@ -1,4 +1,4 @@
-use Rattle.std.proofs.Common.{length, arith}
+use Rattle.std.proofs.Common.{arith}
 use Rattle.engine_state.proofs.BuiltinArguments.{placed_terms_at, bare_ready, loaded_ready}
 use Rattle.engine_state.proofs.engine.Engine.load_builtin.Goals as goal
 
