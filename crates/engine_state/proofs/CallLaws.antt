@@ -69,7 +69,7 @@ module _ (program : Program) (vars size base : ℕ) (enough : base + vars ≤ si
     by_number (inl lt) = omega (arith, lt, enough)
     by_number (inr le) = absurd (true≢false (sym o ∙ absent_above v t (omega (arith, le, le_of (above t) vars (and_parts (has_names (length program.names) t) _ e).1))))
 
-  placed_terms : (ts : List Term) → list_all (is_term_of program vars) ts ≡ true → AllByRecursion (IsPlaced size base) ts
+  pub placed_terms : (ts : List Term) → list_all (is_term_of program vars) ts ≡ true → AllByRecursion (IsPlaced size base) ts
   placed_terms [] e = tt
   placed_terms (t ∷ ts) e = let parts = and_parts (is_term_of program vars t) _ e in (placed_term t parts.0, placed_terms ts parts.1)
 
@@ -88,13 +88,13 @@ call_placed program cells vars p ts row e count within =
     record { there = parts.0; count = count ∙ eq_of (length ts) (pred_of program p).arity parts.1; within = within }
 
 -- the tasks from a link on are among the cells
-links_tasks : (e : code.Engine) (k : ℕ) → IsKept e → AreTasksWithin (size_of e.heap.changes) (tasks_at e k)
+pub links_tasks : (e : code.Engine) (k : ℕ) → IsKept e → AreTasksWithin (size_of e.heap.changes) (tasks_at e k)
 links_tasks e k kept =
     tasks_within.chained (size_of e.heap.changes) (as_links e.notes.items e.links.items) k
     (links_within e.program.now e.notes.items (size_of e.heap.changes) (length e.notes.items) (reverse e.links.items)
     (moment_now e.program.now e.query e.heap.changes (length e.notes.items) (reverse e.links.items) (reverse e.points.items) kept.moments).1)
 
-query_there : (e : code.Engine) → IsKept e → e.query < size_of e.heap.changes
+pub query_there : (e : code.Engine) → IsKept e → e.query < size_of e.heap.changes
 query_there e kept = (moment_now e.program.now e.query e.heap.changes (length e.notes.items) (reverse e.links.items) (reverse e.points.items) kept.moments).0
 
 -- no arguments

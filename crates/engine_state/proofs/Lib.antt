@@ -1,5 +1,7 @@
 mod BackLaws
 mod BelowLaws
+mod BuiltinArguments
+mod BuiltinMoves
 mod CallLaws
 mod CellMoves
 mod ChoiceLaws

@@ -166,10 +166,10 @@ module _ (changes : List Change) (made : IsMade changes) (n : ℕ) (le : size_of
   value_below : (i : ℕ) → i < size_of changes → value_of changes i ≡ instance (below n) (value_of changes i)
   value_below i lt = sym (occurring_below n (value_of changes i) (λ v o. let stands : v < size_of changes = stands_below changes i v made lt o in omega (arith, stands, le)))
 
-  frame_below : (tasks : List Task) (query : ℕ) → AreTasksWithin (size_of changes) tasks → query < size_of changes → IsFrameBelow n (frame_with (value_of changes) tasks query)
+  pub frame_below : (tasks : List Task) (query : ℕ) → AreTasksWithin (size_of changes) tasks → query < size_of changes → IsFrameBelow n (frame_with (value_of changes) tasks query)
   frame_below tasks query are lt = sym (frame_follows (size_of changes) (below n) (value_of changes) (value_of changes) value_below tasks query are lt)
 
-  args_below : (first count : ℕ) → first + count ≤ size_of changes → map (instance (below n)) (map (value_of changes) (places first count)) ≡ map (value_of changes) (places first count)
+  pub args_below : (first count : ℕ) → first + count ≤ size_of changes → map (instance (below n)) (map (value_of changes) (places first count)) ≡ map (value_of changes) (places first count)
   args_below first count enough =
       map_map (instance (below n)) (value_of changes) (places first count)
       ∙ sym (map_places (value_of changes) (λ i. instance (below n) (value_of changes i)) (size_of changes) count first value_below enough)

@@ -1,3 +1,4 @@
+pub mod BuiltinMoves
 pub mod CellMoves
 pub mod Engines
 pub mod Fewest

@@ -10,7 +10,7 @@ use machine_model::leaner_states_law;
 
 impl<'p> Engine<'p> {
     /// Goes back to the newest choice after failure; its alternative, if there is one.
-    pub(crate) fn go_back(&mut self) -> Option<Alternative>
+    pub fn go_back(&mut self) -> Option<Alternative>
         requires { IsWhole self.old Failed }
         ensures back { MatchOption result (choices_at self.old ≡ []) (λ a. HasGoneBack self.old a self.new) }
         ensures program { self.new.program.now ≡ self.old.program.now }

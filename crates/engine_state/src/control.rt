@@ -15,7 +15,7 @@ use term_core::NoMemory;
 
 impl<'p> Engine<'p> {
     /// At `true`.
-    pub(crate) fn do_true(&self, setting: Setting) -> Stage<'p>
+    pub fn do_true(&self, setting: Setting) -> Stage<'p>
         requires { IsDue self.now goal.True setting }
         ensures { HasMoved self.now (goal_state self.now goal.True setting) self.now result }
     {
@@ -24,7 +24,7 @@ impl<'p> Engine<'p> {
     }
 
     /// At `fail`.
-    pub(crate) fn do_fail(&self, setting: Setting) -> Stage<'p>
+    pub fn do_fail(&self, setting: Setting) -> Stage<'p>
         requires { IsDue self.now goal.Fail setting }
         ensures { HasMoved self.now (goal_state self.now goal.Fail setting) self.now result }
     {
@@ -33,7 +33,7 @@ impl<'p> Engine<'p> {
     }
 
     /// At a cut.
-    pub(crate) fn do_cut(&mut self, setting: Setting) -> Stage<'p>
+    pub fn do_cut(&mut self, setting: Setting) -> Stage<'p>
         requires { IsDue self.old goal.Cut setting }
         ensures { HasMoved self.old (goal_state self.old goal.Cut setting) self.new result }
     {
@@ -43,7 +43,7 @@ impl<'p> Engine<'p> {
     }
 
     /// At a cut to a height, before the tasks from a link on.
-    pub(crate) fn do_cuts(&mut self, height: u64, rest: u64) -> Stage<'p>
+    pub fn do_cuts(&mut self, height: u64, rest: u64) -> Stage<'p>
         requires { IsAt self.old (doing self.old (Cuts height ∷ tasks_at self.old rest)) (rest ≤ length self.old.links.items) }
         ensures { HasMoved self.old (doing self.old (Cuts height ∷ tasks_at self.old rest)) self.new result }
     {
@@ -57,7 +57,7 @@ impl<'p> Engine<'p> {
     /// # Errors
     ///
     /// Only for want of memory.
-    pub(crate) fn do_conj(
+    pub fn do_conj(
         &mut self,
         first: &'p Goal,
         second: &'p Goal,
@@ -82,7 +82,7 @@ impl<'p> Engine<'p> {
     /// # Errors
     ///
     /// Only for want of memory.
-    pub(crate) fn do_disj(
+    pub fn do_disj(
         &mut self,
         first: &'p Goal,
         second: &'p Goal,
@@ -103,7 +103,7 @@ impl<'p> Engine<'p> {
     /// # Errors
     ///
     /// Only for want of memory.
-    pub(crate) fn do_if(
+    pub fn do_if(
         &mut self,
         condition: &'p Goal,
         first: &'p Goal,
@@ -128,11 +128,7 @@ impl<'p> Engine<'p> {
     /// # Errors
     ///
     /// Only for want of memory.
-    pub(crate) fn do_not(
-        &mut self,
-        negated: &'p Goal,
-        setting: Setting,
-    ) -> Result<Stage<'p>, NoMemory>
+    pub fn do_not(&mut self, negated: &'p Goal, setting: Setting) -> Result<Stage<'p>, NoMemory>
         requires { IsDue self.old (goal.Not negated.now) setting }
         ensures { IfOk result (λ stage. HasMoved self.old (goal_state self.old (goal.Not negated.now) setting) self.new stage) }
     {

@@ -22,7 +22,7 @@ use term_heap::{Heap, HeapMark};
 
 /// What a run holds: its program, the heap, what is to be done, what failure goes back to, the calls made, and the query's place.
 #[derive(Drop)]
-pub(crate) struct Engine<'p> {
+pub struct Engine<'p> {
     pub program: &'p Program,
     pub heap: Heap,
     pub links: Vec<Link<'p>>,
@@ -38,7 +38,7 @@ impl<'p> Engine<'p> {
     /// # Errors
     ///
     /// Only where no number of 64 bits tells it.
-    pub(crate) fn height(&self) -> Result<u64, NoMemory>
+    pub fn height(&self) -> Result<u64, NoMemory>
         requires { IsKept self.now }
         ensures { IfOk result (λ h. h ≡ length (choices_at self.now)) }
     {
@@ -47,7 +47,7 @@ impl<'p> Engine<'p> {
     }
 
     /// The link with a number, if there is one.
-    pub(crate) fn link(&self, number: u64) -> Option<Link<'p>>
+    pub fn link(&self, number: u64) -> Option<Link<'p>>
         requires { IsKept self.now }
         ensures { MatchOption result (tasks_at self.now number ≡ []) (IsFirst self.now number) }
     {
@@ -58,7 +58,7 @@ impl<'p> Engine<'p> {
     }
 
     /// Lets go of links and notes that neither the tasks from a link on nor choices use.
-    pub(crate) fn let_go(&mut self, rest: u64)
+    pub fn let_go(&mut self, rest: u64)
         requires kept { IsKept self.old }
         requires rest { rest ≤ length self.old.links.items }
         ensures { GoesTo self.old rest (choices_at self.old) self.new }
@@ -76,7 +76,7 @@ impl<'p> Engine<'p> {
     /// # Errors
     ///
     /// Only for want of memory.
-    pub(crate) fn push(&mut self, task: Task<'p>, rest: u64) -> Result<u64, NoMemory>
+    pub fn push(&mut self, task: Task<'p>, rest: u64) -> Result<u64, NoMemory>
         requires kept { IsKept self.old }
         requires rest { rest ≤ length self.old.links.items }
         requires placed { IsTaskPlaced self.old.program.now (size_of self.old.heap.changes) task }
@@ -98,7 +98,7 @@ impl<'p> Engine<'p> {
     /// # Errors
     ///
     /// Only for want of memory.
-    pub(crate) fn put_off(&mut self, goal: &'p Goal, setting: Setting) -> Result<u64, NoMemory>
+    pub fn put_off(&mut self, goal: &'p Goal, setting: Setting) -> Result<u64, NoMemory>
         requires kept { IsKept self.old }
         requires rest { setting.rest ≤ length self.old.links.items }
         requires placed { IsGoalPlaced self.old.program.now (size_of self.old.heap.changes) goal.now setting.base }
@@ -114,7 +114,7 @@ impl<'p> Engine<'p> {
     /// # Errors
     ///
     /// Only for want of memory.
-    pub(crate) fn put_exit(&mut self, exit: Exit, rest: u64) -> Result<u64, NoMemory>
+    pub fn put_exit(&mut self, exit: Exit, rest: u64) -> Result<u64, NoMemory>
         requires kept { IsKept self.old }
         requires rest { rest ≤ length self.old.links.items }
         requires placed { IsCallPlaced self.old.program.now (size_of self.old.heap.changes) exit.pred exit.args }
@@ -133,7 +133,7 @@ impl<'p> Engine<'p> {
     /// # Errors
     ///
     /// Only for want of memory.
-    pub(crate) fn add_point(&mut self, alternative: Alternative) -> Result<(), NoMemory>
+    pub fn add_point(&mut self, alternative: Alternative) -> Result<(), NoMemory>
         requires kept { IsKept self.old }
         requires placed { IsAlternativePlaced self.old.program.now (size_of self.old.heap.changes) (length self.old.links.items) alternative }
         requires noted { IsAlternativeNoted (length self.old.notes.items) alternative }
@@ -153,7 +153,7 @@ impl<'p> Engine<'p> {
     }
 
     /// Takes the newest choices off until that many are left.
-    pub(crate) fn cut_to(&mut self, height: u64)
+    pub fn cut_to(&mut self, height: u64)
         requires { IsKept self.old }
         ensures { GoesTo self.old (length self.old.links.items) (cut height (choices_at self.old)) self.new }
     {
@@ -161,7 +161,7 @@ impl<'p> Engine<'p> {
     }
 
     /// Exits the mark with so many choices below it, if there is one.
-    pub(crate) fn exit_at(&mut self, height: u64)
+    pub fn exit_at(&mut self, height: u64)
         requires { IsKept self.old }
         ensures { GoesTo self.old (length self.old.links.items) (exit_mark (Some height) (choices_at self.old)) self.new }
     {
@@ -169,7 +169,7 @@ impl<'p> Engine<'p> {
     }
 
     /// The conditions of the mark with so many choices below it, and whether it was exited. Where there is no such mark there are none.
-    pub(crate) fn mark_at(&self, height: u64) -> Marked
+    pub fn mark_at(&self, height: u64) -> Marked
         requires { IsKept self.now }
         ensures mark { as_marked self.now.notes.items result ≡ mark_seen (mark_of (Some height) (choices_at self.now)) }
         ensures noted { IsRowWithin (length self.now.notes.items) result.conds }
@@ -178,7 +178,7 @@ impl<'p> Engine<'p> {
     }
 
     /// Takes the newest choice off and goes back to its moment; its alternative, if there is one.
-    pub(crate) fn take_choice(&mut self) -> Option<Alternative>
+    pub fn take_choice(&mut self) -> Option<Alternative>
         requires { IsKept self.old }
         ensures taken { MatchOption result (choices_at self.old ≡ []) (λ a. HasTaken self.old a self.new) }
         ensures program { self.new.program.now ≡ self.old.program.now }

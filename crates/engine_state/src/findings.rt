@@ -9,7 +9,7 @@ use term_core::NoMemory;
 
 /// How many tests there were, and the ending that they gave, where they ended the run.
 #[derive(Clone, Copy, Drop)]
-pub(crate) struct Counted {
+pub struct Counted {
     pub tests: u64,
     pub ended: Option<Ending>,
 }
@@ -42,7 +42,7 @@ fn add_finding(
 /// # Errors
 ///
 /// Only for want of memory.
-pub(crate) fn test_all<F: Fn(u64) -> bool>(
+pub fn test_all<F: Fn(u64) -> bool>(
     holds: F,
     conditions: &[u64],
     stops: bool,

@@ -36,7 +36,7 @@ fn place_at(points: &[ChoicePoint], height: u64) -> Option<usize>
 
 /// The conditions of a mark, and whether it was exited.
 #[derive(Clone, Copy, Drop)]
-pub(crate) struct Marked {
+pub struct Marked {
     pub conds: Row,
     pub exited: bool,
 }

@@ -13,7 +13,7 @@ use term_core::NoMemory;
 
 /// A call with clauses left to be tried: its exit, the height before them, and the link behind it.
 #[derive(Clone, Copy, Drop)]
-pub(crate) struct Pending {
+pub struct Pending {
     pub exit: Exit,
     pub height: u64,
     pub rest: u64,
@@ -21,7 +21,7 @@ pub(crate) struct Pending {
 
 /// What failure goes back to.
 #[derive(Clone, Copy, Drop)]
-pub(crate) enum Alternative {
+pub enum Alternative {
     /// A link.
     Resumes(u64),
     /// The clauses of a call from a number on, before another.
@@ -32,7 +32,7 @@ pub(crate) enum Alternative {
 
 /// An alternative, with the length of the trail and the numbers of links and notes when it was made, and how many choices were below it.
 #[derive(Clone, Copy, Drop)]
-pub(crate) struct ChoicePoint {
+pub struct ChoicePoint {
     pub trail: u64,
     pub links: u64,
     pub notes: u64,

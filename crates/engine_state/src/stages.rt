@@ -4,7 +4,7 @@ use prog_data::{Ending, Goal, Place};
 
 /// What a goal is run with: the place of its first variable, the height that a cut in it leaves, the place of its clause, and the link behind it.
 #[derive(Clone, Copy, Drop)]
-pub(crate) struct Setting {
+pub struct Setting {
     pub base: u64,
     pub height: u64,
     pub place: Place,
@@ -13,7 +13,7 @@ pub(crate) struct Setting {
 
 /// Where a run is.
 #[derive(Clone, Copy, Drop)]
-pub(crate) enum Stage<'p> {
+pub enum Stage<'p> {
     /// The tasks from a link on are to be done.
     Doing(u64),
     /// A goal of the program is in hand.
