@@ -127,13 +127,13 @@ module _ (found : LeanerStatesAreFound) (program : Program) (is : IsProgram prog
   abbrev its_cell : Cell
   its_cell = cell_at (cells_of changes) root
 
-  abbrev row : Row
-  row = arguments_row its_cell
+  abbrev args_row : Row
+  args_row = arguments_row its_cell
 
   abbrev to : State
-  to = as_state (as_engine e) (Doing (call_frame e pred row 0 nowhere 0))
+  to = as_state (as_engine e) (Doing (call_frame e pred args_row 0 nowhere 0))
 
-  parts_are : parts_of (out-Term query) ≡ map value (places row.first row.count)
+  parts_are : parts_of (out-Term query) ≡ map value (places args_row.first args_row.count)
   parts_are = row_parts value root its_cell query end (sym (root_is ∙ value_is) ∙ fits changes root made there)
 
   state_is : record (start_of pred query) { fresh = size_of changes } ≡ to
@@ -159,23 +159,23 @@ module _ (found : LeanerStatesAreFound) (program : Program) (is : IsProgram prog
         (subst (λ ls. Moments e.program.now e.query changes (length e.notes.items) (reverse ls) []) (sym no_links) (at_there, tt));
   }
 
-  placed : IsCallPlaced program (size_of changes) pred row
+  placed : IsCallPlaced program (size_of changes) pred args_row
   placed =
       let found_pred = called_there program.preds pred (out-Term query) (found_one (is_called program query) program.exports pred called) in
       let arity : (pred_of program pred).arity ≡ length (parts_of (out-Term query)) = arity_is (pred_of program pred) (out-Term query) found_pred.1 in
       record {
         there = lt_of pred (length program.preds) found_pred.0;
-        count = sym (arity ∙ ap length parts_are ∙ length-map (places row.first row.count) value ∙ length-places row.first row.count);
+        count = sym (arity ∙ ap length parts_are ∙ length-map (places args_row.first args_row.count) value ∙ length-places args_row.first args_row.count);
         within = row_within (size_of changes) its_cell (names_in changes root made there);
       }
 
-  pub started : HasStarted program pred query e (stage.Calling pred row 0 nowhere 0)
+  pub started : HasStarted program pred query e (stage.Calling pred args_row 0 nowhere 0)
   started = record {
     program_is = same_program;
     same = same;
     whole = record {
       kept = kept;
       own = subst (λ p. IsLeaner p to to) (sym same_program) ((found program is).own (start_of pred query) to same);
-      in_hand = (subst (λ p. IsCallPlaced p (size_of changes) pred row) (sym same_program) placed, omega arith);
+      in_hand = (subst (λ p. IsCallPlaced p (size_of changes) pred args_row) (sym same_program) placed, omega arith);
     };
   }
