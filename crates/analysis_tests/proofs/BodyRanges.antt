@@ -1,5 +1,5 @@
 -- The goals of the tests are in range.
-use Rattle.std.proofs.Common.{◌≡◌, ℕ, zero, suc, ◌+◌, Bool, true, false, ◌&&◌, List, [], ◌∷◌, length, refl, ap, sym, ◌∙◌, arith}
+use Rattle.std.proofs.Common.{◌≡◌, ℕ, ◌+◌, Bool, true, false, ◌&&◌, List, [], ◌∷◌, length, refl, ap, sym, ◌∙◌, arith}
 use Rattle.std.proofs.lemmas.Bool.{and_from}
 use Rattle.std.specs.Prelude.{◌==◌, nat_le, if◌then◌else◌, slice_get, slice_index_or, None}
 use Rattle.std.specs.List.{list_all}
@@ -18,7 +18,7 @@ use Rattle.prog_data.specs.Goals.{no_pred, pred_of}
 use Rattle.prog_data.specs.Programs.{IsPred, IsCond, IsProgram}
 use Rattle.prog_data.specs.RangeLaws.{empty_program}
 use Rattle.prog_data.specs.Ranges.{arity_of, is_term_of, is_builtin_of, is_call_of, goal_step, is_goal_of, is_body_of, is_clause_of}
-use Rattle.prog_data.proofs.GoalFolds.{fold-True, fold-Fail, fold-Cut, fold-Call, fold-Builtin, fold-Conj, fold-Disj, fold-IfElse, fold-Not}
+use Rattle.prog_data.proofs.GoalFolds.{fold-Fail, fold-Cut, fold-Call, fold-Builtin, fold-Conj, fold-Disj, fold-IfElse, fold-Not}
 use Rattle.analysis_tests.specs.Small.{clause_of, pred_with, cond_of}
 use Rattle.analysis_tests.specs.Bodies.{first_vars, is_typed, builtin_of, integer, atom, call, clauses, nnegint_success, control}
 use Rattle.analysis_tests.proofs.GoalBodies.{goal_body}
