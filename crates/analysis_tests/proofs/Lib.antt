@@ -1,5 +1,2 @@
-mod Ranges
-mod ClosedRows
 mod GoalBodies
-mod BodyRanges
 mod InRange

@@ -2,8 +2,6 @@
 #![tactic(auto)]
 
 #[cfg(test)]
-mod bodies;
-#[cfg(test)]
 mod builtins;
 #[cfg(test)]
 mod conditions;
@@ -20,13 +18,7 @@ mod program_ranges;
 #[cfg(test)]
 mod programs;
 #[cfg(test)]
-mod small_programs;
-#[cfg(test)]
-mod statuses;
-#[cfg(test)]
 mod tables;
-#[cfg(test)]
-mod transfer;
 #[cfg(test)]
 mod values;
 #[cfg(test)]

@@ -6,8 +6,6 @@ mod arithmetic;
 #[cfg(test)]
 mod assertions;
 #[cfg(test)]
-mod clauses;
-#[cfg(test)]
 mod file_sets;
 #[cfg(test)]
 mod functions;
@@ -15,8 +13,6 @@ mod functions;
 mod generated;
 #[cfg(test)]
 mod grammar_rules;
-#[cfg(test)]
-mod membership;
 #[cfg(test)]
 mod normal;
 #[cfg(test)]
