@@ -1,0 +1,54 @@
+-- The predicates of files: those of each file in the order of their first clauses, file by file in load order, numbered from 0 on.
+-- The headline does not rest on this file.
+use Rattle.std.specs.Prelude.{ℕ, zero, suc, ◌+◌, Bool, List, [], ◌∷◌, ◌++◌, map, filter, length}
+use Rattle.ciao_reader.specs.declared.sentences.Sentence.{Sentence}
+use Rattle.assertion_read.specs.declared.assertions.Assertion.{Assertion}
+use Rattle.body_code.specs.declared.scopes.Named.{Named}
+use Rattle.program_link.specs.Indicators.{same_indicator, is_among, with_indicators}
+use Rattle.program_link.specs.Sayings.{File}
+use Rattle.body_code.specs.declared.faults.Indicator.{Indicator}
+use Rattle.program_link.specs.declared.drafts.Draft.{Draft}
+
+-- the predicates of a file: those that it has clauses for, by their first clauses
+abbrev pub indicators : File → List Indicator
+indicators f = with_indicators [] (map (λ c. c.indicator) f.parts.clauses)
+
+-- whether a file has clauses for a predicate
+abbrev pub defines : File → Indicator → Bool
+defines f p = is_among p (indicators f)
+
+-- the clauses of a predicate
+abbrev pub clauses_of : File → Indicator → List Sentence
+clauses_of f p = map (λ c. c.sentence) (filter (λ c. same_indicator p c.indicator) f.parts.clauses)
+
+-- the predicate that an assertion is about
+abbrev pub asserted : Assertion → Indicator
+asserted a = record { name = a.name; arity = a.arity }
+
+-- the assertions about a predicate
+abbrev pub assertions_of : File → Indicator → List Assertion
+assertions_of f p = filter (λ a. same_indicator p (asserted a)) f.parts.assertions
+
+-- the number of the first predicate of the file at a place
+abbrev pub first_pred : List File → ℕ → ℕ
+first_pred [] at = 0
+first_pred (f ∷ fs) zero = 0
+first_pred (f ∷ fs) (suc at) = length (indicators f) + first_pred fs at
+
+-- predicates numbered on from a number
+abbrev pub numbered : ℕ → List Indicator → List Named
+numbered n [] = []
+numbered n (p ∷ ps) = record { name = p.name; arity = p.arity; pred = n } ∷ numbered (suc n) ps
+
+-- a predicate of the file at a place
+abbrev pub draft_of : ℕ → File → Indicator → Draft
+draft_of at f p = record { unit = at; indicator = p; clauses = clauses_of f p; assertions = assertions_of f p }
+
+-- the predicates of files, the first of which is at this place
+abbrev pub drafts_from : ℕ → List File → List Draft
+drafts_from at [] = []
+drafts_from at (f ∷ fs) = map (draft_of at f) (indicators f) ++ drafts_from (suc at) fs
+
+-- the predicates of all files, in the order of their numbers
+abbrev pub drafts : List File → List Draft
+drafts files = drafts_from 0 files
