@@ -1,6 +1,6 @@
 -- What holds of each element of a list, and the test of it.
-use Rattle.std.proofs.Common.{◌≡◌, Bool, true, false, List, [], ◌∷◌, ◌++◌, map, refl}
-use Rattle.std.specs.Prelude.{cond, filter}
+use Rattle.std.proofs.Common.{◌≡◌, ℕ, zero, suc, ◌<◌, Bool, true, false, List, [], ◌∷◌, ◌++◌, map, length, slice_index_or, refl, subst, arith}
+use Rattle.std.specs.Prelude.{cond, filter, Contains}
 use Rattle.std.specs.List.{list_all, AllByRecursion}
 use Rattle.std.proofs.lemmas.Bool.{and_from}
 
@@ -31,3 +31,12 @@ each_more P Q holds (x ∷ xs) h = (holds x h.0, each_more P Q holds xs h.1)
 pub each_of : {A : Type 0} (P : A → Type 0) → ((x : A) → P x) → (xs : List A) → AllByRecursion P xs
 each_of P holds [] = tt
 each_of P holds (x ∷ xs) = (holds x, each_of P holds xs)
+
+-- of one of them
+each_at : {A : Type 0} (P : A → Type 0) (xs : List A) (x : A) → AllByRecursion P xs → (k : ℕ) → k < length xs → slice_index_or xs k x ≡ x → P x
+each_at P [] x h k lt e = let no : k < 0 = lt in absurd (omega (arith, no))
+each_at P (y ∷ ys) x h zero lt e = subst P e h.0
+each_at P (y ∷ ys) x h (suc k) lt e = let more : suc k < suc (length ys) = lt in each_at P ys x h.1 k (omega (arith, more)) e
+
+pub each_in : {A : Type 0} (P : A → Type 0) (xs : List A) (x : A) → AllByRecursion P xs → Contains xs x → P x
+each_in P xs x h c = each_at P xs x h c.0 c.1 c.2

@@ -9,17 +9,33 @@ use Rattle.assertion_read.specs.declared.assertions.Assertion.{Assertion}
 use Rattle.assertion_normal.specs.declared.troubles.Trouble.{Trouble}
 use Rattle.assertion_normal.specs.declared.troubles.Trouble.TheVariants as what
 use Rattle.assertion_normal.specs.declared.troubles.Troubled.{Troubled}
-use Rattle.assertion_normal.specs.Troubles.{rank, is_before, sooner, least_from, troubled, least_trouble}
+use Rattle.assertion_normal.specs.Troubles.{rank, at_line, is_before, sooner, least_from, troubled, least_trouble}
 use Rattle.assertion_normal.specs.Laws.{IsFirstTrouble}
 
 -- the order of troubles is that of a number: twice the line, and the rank
 
-abbrev weight : Troubled → ℕ
+abbrev pub weight : Troubled → ℕ
 weight t = t.line + t.line + rank t.trouble
 
 rank_small : (t : Trouble) → rank t ≤ 1
 rank_small what.Unknown = omega arith
 rank_small what.Several = omega arith
+
+same_trouble : (a b : Trouble) → rank a ≡ rank b → a ≡ b
+same_trouble what.Unknown what.Unknown e = refl
+same_trouble what.Unknown what.Several e = let no : 0 ≡ 1 = e in absurd (omega (arith, no))
+same_trouble what.Several what.Unknown e = let no : 1 ≡ 0 = e in absurd (omega (arith, no))
+same_trouble what.Several what.Several e = refl
+
+pub same_troubled : (a b : Troubled) → weight a ≤ weight b → weight b ≤ weight a → a ≡ b
+same_troubled a b le more =
+    let first : rank a.trouble ≤ 1 = rank_small a.trouble in
+    let second : rank b.trouble ≤ 1 = rank_small b.trouble in
+    let one : a.line + a.line + rank a.trouble ≤ b.line + b.line + rank b.trouble = le in
+    let other : b.line + b.line + rank b.trouble ≤ a.line + a.line + rank a.trouble = more in
+    let lines : a.line ≡ b.line = omega (arith, first, second, one, other) in
+    let ranks : rank a.trouble ≡ rank b.trouble = omega (arith, lines, one, other) in
+    ap (λ line. at_line line a.trouble) lines ∙ ap (at_line b.line) (same_trouble a.trouble b.trouble ranks)
 
 less : (a b : ℕ) → nat_lt a b ≡ true → a < b
 less a b e = grind (arith, nat_tests, e)
@@ -31,7 +47,7 @@ apart : (a b : ℕ) → (a == b) ≡ false → b ≤ a → b < a
 apart a b e le = grind (arith, nat_tests, e, le)
 
 module _ (x t : Troubled) where
-  later : is_before x t ≡ false → weight t ≤ weight x
+  pub later : is_before x t ≡ false → weight t ≤ weight x
   later e = by (nat_lt x.line t.line) (x.line == t.line) (nat_lt (rank x.trouble) (rank t.trouble)) refl refl refl e
     where
       by : (b c d : Bool) → nat_lt x.line t.line ≡ b → (x.line == t.line) ≡ c → nat_lt (rank x.trouble) (rank t.trouble) ≡ d → (b || (c && d)) ≡ false → weight t ≤ weight x

@@ -7,5 +7,6 @@ mod TurnLaws
 mod ConditionRanges
 mod NumberLaws
 mod TroubleLaws
+mod OwnTroubles
 mod GrowingRanges
 mod FirstTroubles

@@ -14,8 +14,10 @@ use Rattle.assertion_normal.specs.declared.troubles.Troubled.{Troubled}
 use Rattle.assertion_normal.specs.Settling.{IsNoRoom, all_settled}
 use Rattle.assertion_normal.specs.Troubles.{trouble_of, at_line, is_before, sooner, least_from, troubled, least_trouble, told_at, told}
 use Rattle.assertion_normal.specs.Normals.{given, IsNormalFault}
-use Rattle.assertion_normal.specs.Laws.{TroublesAreFound}
-use Rattle.assertion_normal.proofs.FirstTroubles.{first_is}
+use Rattle.assertion_normal.specs.Ranges.{IsKept}
+use Rattle.assertion_normal.specs.Laws.{IsFirstTrouble, TroublesAreFound}
+use Rattle.assertion_normal.proofs.EachLaws.{each_in}
+use Rattle.assertion_normal.proofs.FirstTroubles.{same_troubled, later, first_is}
 
 -- the first of troubles is none exactly where all are none
 
@@ -52,10 +54,26 @@ module _ (names : List (List ℕ)) (seen : List Seen) where
   all_untroubled [] h = tt
   all_untroubled (a ∷ as') h = (ap (option_map (at_line a.line)) h.0, all_untroubled as' h.1)
 
+-- what is the first trouble is found
+module _ (names : List (List ℕ)) (seen : List Seen) (list : List Assertion) (t : Troubled) where
+  is_found : IsFirstTrouble names seen list t → least_trouble names seen list ≡ Some t
+  is_found f = by (least_trouble names seen list) refl
+    where
+      by : (o : Option Troubled) → least_trouble names seen list ≡ o → o ≡ Some t
+      by None i =
+          let all = each_untroubled names seen list (from_none None (map (troubled names seen) list) i).1 in
+          let none : trouble_of names seen f.assertion ≡ None = each_in (λ a. trouble_of names seen a ≡ None) list f.assertion all f.among in
+          absurd (none_part t (sym (ap (option_map (at_line f.assertion.line)) none) ∙ f.trouble))
+      by (Some u) i =
+          let g = first_is names seen u list i in
+          let after = each_in (λ a. (v : Troubled) → troubled names seen a ≡ Some v → is_before v u ≡ false) list f.assertion g.first f.among t f.trouble in
+          let behind = each_in (λ a. (v : Troubled) → troubled names seen a ≡ Some v → is_before v t ≡ false) list g.assertion f.first g.among u g.trouble in
+          ap (λ v. Some v) (same_troubled u t (later t u after) (later u t behind))
+
 pub troubles_found : TroublesAreFound
 troubles_found = record {
   none = λ names seen list. ((λ e. each_untroubled names seen list (from_none None (map (troubled names seen) list) e).1), (λ h. to_none (map (troubled names seen) list) (all_untroubled names seen list h)));
-  first = λ names seen list t e. first_is names seen t list e;
+  first = λ names seen list t. ((λ e. first_is names seen t list e), is_found names seen list t);
 }
 
 -- what is told
@@ -73,3 +91,19 @@ module _ (names : List (List ℕ)) (file : ℕ) (seen : List Seen) (g : Grammar)
   no_room_told (Ambiguous line) none h = absurd h
   no_room_told TooManyNames none h = (none, ap (option_map (given names file seen g pred first list)) h)
   no_room_told NoMemory none h = tt
+
+-- what the grammar is then
+
+module _ (old : Grammar) where
+  kept_by : (line : ℕ) (t : Trouble) → IsKept old old (told_at line t)
+  kept_by line what.Unknown = refl
+  kept_by line what.Several = refl
+
+  pub trouble_kept : (t : Troubled) → IsKept old old (told t)
+  trouble_kept t = kept_by t.line t.trouble
+
+  pub no_room_kept : {A : Type 0} (new : Grammar) (o : Option A) (fault : NormalFault) → IsNoRoom o fault → IsKept old new fault
+  no_room_kept new o (UnknownProperty line) h = absurd h
+  no_room_kept new o (Ambiguous line) h = absurd h
+  no_room_kept new o TooManyNames h = tt
+  no_room_kept new o NoMemory h = tt

@@ -12,9 +12,12 @@ use Rattle.prog_data.specs.Ranges.{is_prop_of, is_kind_of}
 use Rattle.assertion_read.specs.declared.assertions.Assertion.{Assertion}
 use Rattle.assertion_normal.specs.declared.outcomes.Normal.{Normal}
 use Rattle.assertion_normal.specs.declared.settling.Settled.{Settled}
+use Rattle.assertion_normal.specs.declared.troubles.Trouble.{Trouble}
+use Rattle.assertion_normal.specs.declared.troubles.Trouble.TheVariants as what
 use Rattle.assertion_normal.specs.declared.troubles.Troubled.{Troubled}
+use Rattle.assertion_normal.specs.Settling.{counts}
 use Rattle.assertion_normal.specs.Conditions.{numbers_from, normal_of}
-use Rattle.assertion_normal.specs.Troubles.{trouble_of, is_before, troubled, least_trouble}
+use Rattle.assertion_normal.specs.Troubles.{own_troubles, trouble_of, is_before, troubled, least_trouble}
 
 -- a condition is on the predicate, at a line of the file
 pub record IsConditionOf (source owner : ℕ) (c : Cond) : Type 0 where
@@ -46,10 +49,19 @@ pub record IsFirstTrouble (names : List (List ℕ)) (seen : List Seen) (list : L
   pub trouble : troubled names seen assertion ≡ Some t
   pub first : AllByRecursion (λ a. (u : Troubled) → troubled names seen a ≡ Some u → is_before u t ≡ false) list
 
--- there is no first trouble exactly where no assertion is in trouble, and where there is one it is so
+-- an assertion that has an effect has a name that is in this trouble
+abbrev pub HasTrouble : List (List ℕ) → List Seen → Assertion → Trouble → Type 0
+HasTrouble names seen a t = (counts a.mark ≡ true) × Contains (own_troubles names seen a) (Some t)
+
+-- an assertion's trouble is that a name means nothing exactly where one of its names does, and that one means several types exactly where one does and none means nothing
+pub record OwnTroubleIsTold : Type 0 where
+  pub unknown : (names : List (List ℕ)) (seen : List Seen) (a : Assertion) → (trouble_of names seen a ≡ Some what.Unknown) ↔ HasTrouble names seen a what.Unknown
+  pub several : (names : List (List ℕ)) (seen : List Seen) (a : Assertion) → (trouble_of names seen a ≡ Some what.Several) ↔ (HasTrouble names seen a what.Several × (HasTrouble names seen a what.Unknown → ⊥))
+
+-- there is no first trouble exactly where no assertion is in trouble, and a trouble is the first one exactly where it is so
 pub record TroublesAreFound : Type 0 where
   pub none : (names : List (List ℕ)) (seen : List Seen) (list : List Assertion) → (least_trouble names seen list ≡ None) ↔ AllByRecursion (λ a. trouble_of names seen a ≡ None) list
-  pub first : (names : List (List ℕ)) (seen : List Seen) (list : List Assertion) (t : Troubled) → least_trouble names seen list ≡ Some t → IsFirstTrouble names seen list t
+  pub first : (names : List (List ℕ)) (seen : List Seen) (list : List Assertion) (t : Troubled) → (least_trouble names seen list ≡ Some t) ↔ IsFirstTrouble names seen list t
 
 -- conditions and entries that ask for names of a grammar ask for names of each larger one
 abbrev pub RangesGrow : Type 0

@@ -1,7 +1,8 @@
 -- Grammars, conditions and entries stay in range.
 -- The headline does not rest on this file.
-use Rattle.std.specs.Prelude.{◌≡◌, ◌<◌, ℕ, true, List, ◌++◌, length}
+use Rattle.std.specs.Prelude.{◌≡◌, ℕ, true, List, [], ◌∷◌, ◌++◌, length, None}
 use Rattle.std.specs.List.{list_all, AllByRecursion}
+use Rattle.term_core.specs.Lists.{IsPrefix}
 use Rattle.prog_data.specs.declared.grammars.Rule.{Rule}
 use Rattle.prog_data.specs.declared.grammars.Grammar.{Grammar}
 use Rattle.prog_data.specs.declared.grammars.Seen.{Seen}
@@ -9,27 +10,43 @@ use Rattle.prog_data.specs.GrammarRange.{IsGrammar}
 use Rattle.prog_data.specs.Ranges.{is_prop_of, is_kind_of}
 use Rattle.assertion_read.specs.declared.assertions.Assertion.{Assertion}
 use Rattle.assertion_read.specs.Ranges.{IsAssertionInRange}
-use Rattle.regtype_grammar.specs.Lists.{list_rules}
+use Rattle.regtype_grammar.specs.Lists.{list_rules, list_from}
+use Rattle.regtype_grammar.specs.TypeNames.{AreKindsBelow}
+use Rattle.regtype_grammar.specs.RuleNames.{RulesStayNamed}
 use Rattle.assertion_normal.specs.declared.outcomes.Normal.{Normal}
+use Rattle.assertion_normal.specs.declared.outcomes.NormalFault.{NormalFault}
+use Rattle.assertion_normal.specs.declared.outcomes.NormalFault.TheVariants.{UnknownProperty, Ambiguous, TooManyNames, NoMemory}
 
 -- the types that are seen are names of a grammar
 abbrev pub AreSeen : Grammar → List Seen → Type 0
-AreSeen g seen = AllByRecursion (λ s. s.kind < length g.rules) seen
+AreSeen g seen = AreKindsBelow (length g.rules) seen
 
--- the rules of the lists of an element
-abbrev pub AreOfLists : List Rule → Type 0
-AreOfLists rules = (element : ℕ) × (name : ℕ) × (rules ≡ list_rules element name)
+-- the rules, with the number behind the names before them, are those of the lists of an element that none of these names is
+abbrev pub IsNewList : List (List Rule) → List Rule → Type 0
+IsNewList before rules = (element : ℕ) × (list_from element 0 before ≡ None) × (rules ≡ list_rules element (length before))
 
--- a grammar behind a call, whatever that answers: the old rules keep their places, and behind them come lists alone
+-- so are those of each name that is added behind these
+abbrev pub AreNewLists : List (List Rule) → List (List Rule) → Type 0
+AreNewLists before [] = Unit {0}
+AreNewLists before (rules ∷ rest) = IsNewList before rules × AreNewLists (before ++ rules ∷ []) rest
+
+-- a grammar behind a call, whatever that answers: the old rules come first, and behind them lists alone, each of an element whose lists were not there yet
 pub record GrowsByLists (old new : Grammar) : Type 0 where
-  pub added : List (List Rule)
-  pub begins : old.rules ++ added ≡ new.rules
-  pub lists : AllByRecursion AreOfLists added
+  pub front : IsPrefix old.rules new.rules
+  pub lists : AreNewLists old.rules front.0
 
--- and from a grammar in range, of which the types that are seen are names, it is in range
+-- and no other atoms and functors stand in its rules than the fixed ones and those of the old rules; from a grammar in range, of which the types that are seen are names, it is in range
 pub record IsGrown (seen : List Seen) (old new : Grammar) : Type 0 where
   pub grows : GrowsByLists old new
+  pub named : RulesStayNamed old new
   pub range : IsGrammar old → AreSeen old seen → IsGrammar new
+
+-- where a name is in trouble, the grammar stays as it was
+abbrev pub IsKept : Grammar → Grammar → NormalFault → Type 0
+IsKept old new (UnknownProperty line) = new ≡ old
+IsKept old new (Ambiguous line) = new ≡ old
+IsKept old new TooManyNames = Unit {0}
+IsKept old new NoMemory = Unit {0}
 
 -- assertions in range of so many names, about a predicate of so many arguments
 abbrev pub AreAbout : (names arity : ℕ) → List Assertion → Type 0

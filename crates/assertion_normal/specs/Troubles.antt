@@ -1,6 +1,6 @@
 -- What is wrong with the names of properties, and which trouble comes first.
 -- The headline does not rest on this file.
-use Rattle.std.specs.Prelude.{ℕ, ◌==◌, nat_lt, Bool, ◌&&◌, ◌||◌, List, [], ◌∷◌, map, if◌then◌else◌, Option, Some, None, option_map}
+use Rattle.std.specs.Prelude.{ℕ, ◌==◌, nat_lt, Bool, ◌&&◌, ◌||◌, List, [], ◌∷◌, ◌++◌, map, if◌then◌else◌, Option, Some, None, option_map}
 use Rattle.std.specs.Option.{option_map_or}
 use Rattle.prog_data.specs.declared.grammars.Seen.{Seen}
 use Rattle.assertion_read.specs.declared.assertions.Written.{Written}
@@ -50,10 +50,13 @@ worst_from found (t ∷ ts) = worst_from (worse found t) ts
 abbrev pub written_in : Option (List Written) → List Written
 written_in post = option_map_or (λ ws. ws) post []
 
--- of an assertion: of its precondition, of its postcondition and of the computation
+-- what is wrong with each name of an assertion: those of its precondition, of its postcondition and of the computation
+abbrev pub own_troubles : List (List ℕ) → List Seen → Assertion → List (Option Trouble)
+own_troubles names seen a = map (property_trouble seen) a.pre ++ (map (property_trouble seen) (written_in a.post) ++ map (comp_trouble names) a.comp)
+
+-- the first of these
 abbrev pub own_trouble : List (List ℕ) → List Seen → Assertion → Option Trouble
-own_trouble names seen a =
-    worst_from (worst_from (worst_from None (map (property_trouble seen) a.pre)) (map (property_trouble seen) (written_in a.post))) (map (comp_trouble names) a.comp)
+own_trouble names seen a = worst_from None (own_troubles names seen a)
 
 -- what is wrong with an assertion; nothing with one that has no effect, whose names are not looked up
 abbrev pub trouble_of : List (List ℕ) → List Seen → Assertion → Option Trouble

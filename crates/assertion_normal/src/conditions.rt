@@ -130,12 +130,12 @@ fn add_both(
     alloc: Global,
     about: About,
     conds: &mut Items<Cond>,
-    settled: &Settled,
+    assertion: &Settled,
 ) -> Result<(), NoMemory>
-    ensures { OnOk result (conds.new ≡ conds.old ++ numbered about.file about.pred (length conds.old + about.first) settled.now.line (success_kinds settled.now.pre settled.now.post ++ comp_kinds settled.now.pre settled.now.comp)) }
+    ensures { OnOk result (conds.new ≡ conds.old ++ numbered about.file about.pred (length conds.old + about.first) assertion.now.line (success_kinds assertion.now.pre assertion.now.post ++ comp_kinds assertion.now.pre assertion.now.comp)) }
 {
-    add_success(alloc, about, conds, settled)?;
-    add_comp_of(alloc, about, conds, settled)?;
+    add_success(alloc, about, conds, assertion)?;
+    add_comp_of(alloc, about, conds, assertion)?;
     Ok(())
 }
 

@@ -1,7 +1,7 @@
 // The conditions, claims and entries of a predicate.
 ghost use Rattle.std.specs.Prelude.{◌≡◌, IfOk, IfErr};
 ghost use Rattle.assertion_normal.specs.Normals.{IsNormal, IsNormalFault};
-ghost use Rattle.assertion_normal.specs.Ranges.{IsGrown, StaysInRange};
+ghost use Rattle.assertion_normal.specs.Ranges.{IsGrown, IsKept, StaysInRange};
 ghost use Rattle.assertion_normal.specs.Laws.{IsOfPredicate};
 
 use crate::claims::normal_of;
@@ -16,7 +16,7 @@ use regtype_grammar::meanings_law;
 use std::alloc::Global;
 use term_core::Names;
 
-/// The conditions, claims and entries that the assertions of one predicate of a file give, in the order of their sentences. The grammar gets the lists that they need and that it has not, also where the call is refused. Conditions are numbered on from `first`.
+/// The conditions, claims and entries that the assertions of one predicate of a file give, in the order of their sentences. Entries are those of any predicate, exported or not. The grammar gets the lists that they need and that it has not; of these it may have got some where there is no room or no memory for all, and none where a name is in trouble. Conditions are numbered on from `first`.
 ///
 /// # Errors
 /// Of the names that mean no property and those that mean several types the one of the least line, one that means nothing first; else, that a 513th grammar name is needed; want of memory.
@@ -34,6 +34,7 @@ pub fn normalise(
     ensures of_predicate { IfOk result (IsOfPredicate file pred first) }
     ensures range { IfOk result (λ normal. StaysInRange visible.now grammar.old list.now grammar.new normal) }
     ensures err { IfErr result (IsNormalFault names.now file visible.now grammar.old pred first list.now) }
+    ensures kept { IfErr result (IsKept grammar.old grammar.new) }
     ensures grown { IsGrown visible.now grammar.old grammar.new }
 {
     conditions_law();

@@ -3,6 +3,7 @@ ghost use Rattle.std.specs.Prelude.{◌≡◌, ◌<◌, length, Some, option_map
 ghost use Rattle.prog_data.specs.GrammarRange.{IsGrammar};
 ghost use Rattle.regtype_grammar.specs.Grammars.{number};
 ghost use Rattle.regtype_grammar.specs.Lists.{list_of};
+ghost use Rattle.regtype_grammar.specs.RuleNames.{RulesStayNamed};
 ghost use Rattle.assertion_normal.specs.Properties.{is_mode, mode, needs_no_type, type_name, as_type, asked, comp_named, comp_prop};
 ghost use Rattle.assertion_normal.specs.Settling.{IsNoRoom};
 ghost use Rattle.assertion_normal.specs.Ranges.{GrowsByLists, IsGrown};
@@ -70,6 +71,7 @@ fn asked_list(
     ensures ok { IfOk result (λ prop. option_map (as_type argument) (list_of grammar.old kind) ≡ Some (grammar.new, prop)) }
     ensures err { IfErr result (IsNoRoom (option_map (as_type argument) (list_of grammar.old kind))) }
     ensures grows { GrowsByLists grammar.old grammar.new }
+    ensures named { RulesStayNamed grammar.old grammar.new }
     ensures range { IsGrammar grammar.old → kind < length grammar.old.rules → IsGrammar grammar.new }
 {
     match list_of(alloc, grammar, kind) {

@@ -6,7 +6,7 @@ use std::test::Fail;
 use term_core::{Names, NoMemory};
 
 // Each text with what is told of it: its line, the status, the keyword, the predicate, behind `:`, `=>` and `+` the properties with the numbers of their arguments; or `bad` and the line.
-const ROWS: [(&str, &str); 79] = [
+const ROWS: [(&str, &str); 98] = [
     // the fields of pred
     (":- pred p(X).", "1 check pred p/1"),
     (":- pred p(X) : int(X).", "1 check pred p/1 : int 0"),
@@ -16,6 +16,14 @@ const ROWS: [(&str, &str); 79] = [
     (
         ":- pred p(X,Y) : int(X) => atm(Y) + not_fails # \"c\".",
         "1 check pred p/2 : int 0 => atm 1 + not_fails",
+    ),
+    (
+        ":- pred p(X) : int(X) + is_det.",
+        "1 check pred p/1 : int 0 + is_det",
+    ),
+    (
+        ":- pred p(X) => int(X) + is_det.",
+        "1 check pred p/1 => int 0 + is_det",
     ),
     (":- pred p(X) : true => true.", "1 check pred p/1 =>"),
     (
@@ -29,6 +37,8 @@ const ROWS: [(&str, &str); 79] = [
     (":- pred p(X) + is_det : int(X).", "bad 1"),
     (":- pred p(X) + is_det => int(X).", "bad 1"),
     (":- pred (p(X) # c) : int(X).", "bad 1"),
+    (":- pred (p(X) # c) => int(X).", "bad 1"),
+    (":- pred (p(X) # c) + is_det.", "bad 1"),
     (":- pred p(X) : int(X) + is_det => int(X).", "bad 1"),
     (":- pred p(X) : int(X) + is_det + not_fails.", "bad 1"),
     (":- pred p(X) + f(X).", "bad 1"),
@@ -45,6 +55,10 @@ const ROWS: [(&str, &str); 79] = [
     (
         ":- pred p(X) : (list(X,int), list(X)).",
         "1 check pred p/1 : list 0 int list 0",
+    ),
+    (
+        ":- pred qsort(X,Y) : list(X,int) => list(Y,int) # \"sorts\".",
+        "1 check pred qsort/2 : list 0 int => list 1 int",
     ),
     (":- pred p(X) : int.", "bad 1"),
     (":- pred p(X) : X.", "bad 1"),
@@ -65,6 +79,9 @@ const ROWS: [(&str, &str); 79] = [
         "1 check pred p/3 : int 0 atm 1 gnd 2",
     ),
     (":- pred p/1 : true.", "1 check pred p/1 : true 0"),
+    (":- calls p/2 : int * list(atm).", "1 check calls p/2 : int 0 list 1 atm"),
+    (":- success p/1 : int => list.", "1 check success p/1 : int 0 => list 0"),
+    (":- entry p/1 : list(int).", "1 check entry p/1 : list 0 int"),
     (":- pred p/0 + fails.", "1 check pred p/0 + fails"),
     (":- pred p/0 : true.", "bad 1"),
     (":- pred p/2 : int.", "bad 1"),
@@ -92,6 +109,9 @@ const ROWS: [(&str, &str); 79] = [
     // the other keywords
     (":- calls p(X) : int(X) # c.", "1 check calls p/1 : int 0"),
     (":- calls p(X) # c.", "bad 1"),
+    (":- calls p(X).", "bad 1"),
+    (":- calls p(X) : true.", "1 check calls p/1"),
+    (":- calls (p(X) # c) : int(X).", "bad 1"),
     (":- calls p(X) : int(X) => int(X).", "bad 1"),
     (":- calls p(X) : int(X) + is_det.", "bad 1"),
     (
@@ -99,6 +119,9 @@ const ROWS: [(&str, &str); 79] = [
         "1 check success p/1 : int 0 => atm 0",
     ),
     (":- success p(X) : int(X).", "bad 1"),
+    (":- success p(X) => int(X).", "1 check success p/1 => int 0"),
+    (":- success p(X) => int(X) : int(X).", "bad 1"),
+    (":- success (p(X) # c) => int(X).", "bad 1"),
     (":- success p(X) => int(X) + is_det.", "bad 1"),
     (":- comp p(X).", "1 check comp p/1"),
     (
@@ -106,8 +129,13 @@ const ROWS: [(&str, &str); 79] = [
         "1 check comp p/1 : int 0 + is_det",
     ),
     (":- comp p(X) => int(X) + is_det.", "bad 1"),
+    (":- comp p(X) + is_det.", "1 check comp p/1 + is_det"),
+    (":- comp p(X) + is_det : int(X).", "bad 1"),
+    (":- comp (p(X) # c) + is_det.", "bad 1"),
     (":- entry p(X) : int(X) # c.", "1 check entry p/1 : int 0"),
     (":- entry p(X) => int(X).", "bad 1"),
+    (":- entry p(X).", "1 check entry p/1"),
+    (":- entry (p(X) # c) : int(X).", "bad 1"),
     (":- entry p(X) : int(X) + is_det.", "bad 1"),
     // statuses
     (":- check pred p.", "1 check pred p/0"),

@@ -10,7 +10,7 @@ use std::test::Fail;
 use term_core::{Names, NoMemory};
 
 // Assertions of a predicate, and what is told of them. Conditions are numbered from 5 on, each with its number, its line, its kind and its conjunctions, in which `1/0` is that the argument 0 belongs to the grammar name 1. Behind the conditions stand the claims with their lines, keywords and conditions, then the entries, then the number of grammar names; or the fault. In the grammar of the basic names `color` is 4, and `two` means two types.
-const ROWS: [(&str, &str); 40] = [
+const ROWS: [(&str, &str); 44] = [
     // the calls condition is one of the preconditions, at the line of the first
     (
         ":- pred p(X) : int(X).\n:- pred p(X) : atm(X).",
@@ -35,6 +35,10 @@ const ROWS: [(&str, &str); 40] = [
         "5@1 calls(); 6@1 success()( 1/0); claim 1 pred 5 6; names 10",
     ),
     (
+        ":- pred p(X) : true => true + is_det.",
+        "5@1 calls(); 6@1 success()(); 7@1 comp() is_det; claim 1 pred 5 6 7; names 10",
+    ),
+    (
         ":- success p(X) => true.",
         "5@1 success()(); claim 1 success 5; names 10",
     ),
@@ -52,6 +56,10 @@ const ROWS: [(&str, &str); 40] = [
         "5@1 comp() not_fails; claim 1 comp 5; names 10",
     ),
     (":- comp p.", "claim 1 comp; names 10"),
+    (
+        ":- pred p(X) : int(X) + (not_fails, is_det, fails).",
+        "5@1 calls( 1/0); 6@1 comp( 1/0) not_fails; 7@1 comp( 1/0) is_det; 8@1 comp( 1/0) fails; claim 1 pred 5 6 7 8; names 10",
+    ),
     (
         ":- entry show(L) : list(L).\n:- comp show(L) : list(L) + (not_fails, is_det).",
         "5@2 comp( 9/0) not_fails; 6@2 comp( 9/0) is_det; claim 2 comp 5 6; entry( 9/0); names 10",
@@ -88,6 +96,14 @@ const ROWS: [(&str, &str); 40] = [
     (
         ":- pred p(X) : list(X,term).",
         "5@1 calls( 9/0); claim 1 pred 5; names 10",
+    ),
+    (
+        ":- pred p(X) : list(X,list).",
+        "5@1 calls( 10/0); claim 1 pred 5; names 11",
+    ),
+    (
+        ":- pred p/2 : int * list(atm) => gnd * list(int).",
+        "5@1 calls( 1/0 10/1); 6@1 success( 1/0 10/1)( 5/0 11/1); claim 1 pred 5 6; names 12",
     ),
     (
         ":- pred p(X) : color(X) => list(X,color).",
@@ -134,7 +150,7 @@ const ROWS: [(&str, &str); 40] = [
 ];
 
 // The same in a grammar of 511 names, and in one of 512.
-const FULL: [(&str, u64, &str); 5] = [
+const FULL: [(&str, u64, &str); 10] = [
     (
         ":- pred p(X) : list(X,int).",
         511,
@@ -142,6 +158,14 @@ const FULL: [(&str, u64, &str); 5] = [
     ),
     (":- pred p(X) : (list(X,int), list(X,atm)).", 511, "names"),
     (":- pred p(X) : list(X,int).", 512, "names"),
+    (":- success p(X) => list(X,int).", 512, "names"),
+    (":- entry p(X) : list(X,int).", 512, "names"),
+    (":- true pred p(X) : list(X,int).", 512, "names 512"),
+    (
+        ":- pred p(X) : list(X,list).",
+        511,
+        "5@1 calls( 10/0); claim 1 pred 5; names 511",
+    ),
     (
         ":- pred p(X) : list(X).",
         512,
@@ -152,12 +176,20 @@ const FULL: [(&str, u64, &str); 5] = [
         512,
         "ambiguous 2",
     ),
+    (
+        ":- pred p(X) : list(X,int).\n:- comp p(X) + wrong.",
+        512,
+        "unknown 2",
+    ),
 ];
 
 // What is wrong with one assertion.
-const TROUBLES: [(&str, &str); 6] = [
+const TROUBLES: [(&str, &str); 9] = [
     (":- pred p(X) : int(X) => list(X,color) + is_det.", "none"),
     (":- pred p(X) : two(X).", "several"),
+    (":- comp p(X) : (int(X), two(X)) + fails.", "several"),
+    (":- pred p(X) : wrong(X) => two(X).", "unknown"),
+    (":- pred p(X) : (two(X), wrong(X), two(X)).", "unknown"),
     (":- pred p(X) : two(X) => wrong(X).", "unknown"),
     (":- pred p(X) : two(X) + wrong.", "unknown"),
     (":- true pred p(X) : two(X) + wrong.", "none"),
