@@ -1,17 +1,11 @@
--- What is wrong with units, and the fault that comes first.
+-- What is wrong with units.
 -- The headline does not rest on this file.
-use Rattle.std.specs.Prelude.{ℕ, suc, Bool, true, false, not, ◌&&◌, ◌||◌, ◌==◌, nat_le, nat_lt, List, [], ◌∷◌, ◌++◌, map, flat_map, slice_get, Option, Some, None, if◌then◌else◌, bytes_eq}
-use Rattle.std.specs.Option.{option_map_or}
-use Rattle.term_core.specs.Names.{name_text}
-use Rattle.term_core.specs.declared.fixed.TheConstants.{WRITE, WRITEQ, NL, TERM, LIST, GROUND}
+use Rattle.std.specs.Prelude.{ℕ, suc, not, List, [], ◌∷◌, ◌++◌, map, flat_map, Option, Some, None}
+use Rattle.ciao_reader.specs.declared.sentences.Sentence.{Sentence}
 use Rattle.prog_data.specs.declared.refusals.RefusalKind.{RefusalKind}
 use Rattle.prog_data.specs.declared.refusals.RefusalKind.TheVariants as kind
 use Rattle.prog_data.specs.declared.grammars.Seen.{Seen}
 use Rattle.ciao_modules.specs.FileNames.{Word}
-use Rattle.ciao_modules.specs.Libraries.{library_file}
-use Rattle.ciao_modules.specs.UnitRanges.{exports_of}
-use Rattle.ciao_modules.specs.declared.libraries.Library.TheVariants.{BasicProps, Write}
-use Rattle.ciao_modules.specs.declared.units.Import.{Import}
 use Rattle.assertion_read.specs.declared.assertions.Assertion.{Assertion}
 use Rattle.assertion_normal.specs.Troubles.{trouble_of}
 use Rattle.assertion_normal.specs.declared.troubles.Trouble.{Trouble}
@@ -25,92 +19,9 @@ use Rattle.body_code.specs.declared.scopes.Visible.{Visible}
 use Rattle.body_code.specs.Clauses.{problem_of}
 use Rattle.program_link.specs.Sayings.{File}
 use Rattle.program_link.specs.Numbering.{defines, asserted}
-use Rattle.program_link.specs.Imports.{exported, is_exported, types_named, names_in_scope, type_modules}
+use Rattle.program_link.specs.Imports.{kinds_seen, scope_of, type_modules}
+use Rattle.program_link.specs.NamedFaults.{fault, fault_where, fault_of, broken_fault, export_faults, import_faults}
 use Rattle.program_link.specs.declared.faults.Fault.{Fault}
-use Rattle.body_code.specs.declared.faults.Indicator.{Indicator}
-use Rattle.program_link.specs.declared.sayings.Broken.{Broken}
-use Rattle.program_link.specs.declared.sayings.ReadClause.{ReadClause}
-
--- the order of faults
-
--- the order of kinds in one line
-abbrev pub rank : RefusalKind → ℕ
-rank kind.BadExpansion = 0
-rank kind.BadRegtype = 1
-rank kind.UnknownProperty = 2
-rank kind.BadAssertion = 3
-rank kind.BadClause = 4
-rank kind.NotExported = 5
-rank kind.Ambiguous = 6
-rank kind.Undefined = 7
-rank other = 8
-
--- whether a fault comes before another: by file in load order, then by line, then by kind
-abbrev pub is_before : Fault → Fault → Bool
-is_before a b =
-    nat_lt a.unit b.unit || ((a.unit == b.unit) && (nat_lt a.line b.line || ((a.line == b.line) && nat_lt (rank a.kind) (rank b.kind))))
-
--- of two faults the one that comes first, if there is one; the first of two alike
-abbrev pub sooner : Option Fault → Option Fault → Option Fault
-sooner None b = b
-sooner (Some a) None = Some a
-sooner (Some a) (Some b) = if is_before b a then Some b else Some a
-
--- the first of a fault and others
-abbrev pub least_from : Option Fault → List Fault → Option Fault
-least_from found [] = found
-least_from found (f ∷ fs) = least_from (sooner found (Some f)) fs
-
--- the first of some faults
-abbrev pub least : List Fault → Option Fault
-least fs = least_from None fs
-
--- a fault at a line of the unit at a place
-abbrev pub fault : ℕ → ℕ → RefusalKind → Fault
-fault at line what = record { unit = at; line = line; kind = what }
-
--- the same where something is wrong
-abbrev pub fault_where : Bool → ℕ → ℕ → RefusalKind → List Fault
-fault_where wrong at line what = if wrong then fault at line what ∷ [] else []
-
--- the same where there is a kind
-abbrev pub fault_of : ℕ → ℕ → Option RefusalKind → List Fault
-fault_of at line None = []
-fault_of at line (Some what) = fault at line what ∷ []
-
--- sentences
-
--- a sentence that breaks a rule by itself
-abbrev pub broken_fault : ℕ → Broken → Fault
-broken_fault at b = fault at b.line b.kind
-
--- exports and imports
-
--- exports without clauses, at the lines of their directives
-abbrev pub export_faults : ℕ → File → List Fault
-export_faults at f = flat_map (λ e. fault_where (not (defines f (exported e))) at e.line kind.Undefined) (exports_of f.unit.exports)
-
--- whether a predicate is a basic property
-abbrev pub is_basic_property : Indicator → Bool
-is_basic_property p = ((p.arity == 1) && (nat_le TERM p.name && nat_le p.name GROUND)) || ((p.arity == 2) && (p.name == LIST))
-
--- whether a predicate writes
-abbrev pub is_output : Indicator → Bool
-is_output p = ((p.arity == 1) && ((p.name == WRITE) || (p.name == WRITEQ))) || ((p.arity == 0) && (p.name == NL))
-
--- what is seen everywhere, and may be named of a library all the same: basic properties of basic_props, output of write
-abbrev pub is_everywhere : Word → Indicator → Bool
-is_everywhere file p = (bytes_eq file (library_file BasicProps) && is_basic_property p) || (bytes_eq file (library_file Write) && is_output p)
-
--- whether a unit, if it is there, has a predicate for those that name it
-abbrev pub is_offered : List Word → Indicator → Option File → Bool
-is_offered names p None = false
-is_offered names p (Some g) = is_exported g p || is_everywhere (name_text names g.unit.file) p
-
--- what an import names and the unit does not export, at the line of the directive
-abbrev pub import_faults : List Word → List File → ℕ → Import → List Fault
-import_faults names files at i =
-    flat_map (λ e. fault_where (not (is_offered names (exported e) (slice_get files i.unit))) at i.line kind.NotExported) (option_map_or (λ only. only) i.only [])
 
 -- assertions
 
@@ -136,8 +47,8 @@ problem_kind (Some problem.Ambiguous) = Some kind.Ambiguous
 problem_kind (Some problem.Undefined) = Some kind.Undefined
 
 -- the first problem of a clause, at its line
-abbrev pub clause_faults : Visible → ℕ → ReadClause → List Fault
-clause_faults visible at c = fault_of at c.sentence.line (problem_kind (problem_of visible c.sentence.term))
+abbrev pub clause_faults : Visible → ℕ → Sentence → List Fault
+clause_faults visible at s = fault_of at s.line (problem_kind (problem_of visible s.term))
 
 -- types
 
@@ -156,8 +67,8 @@ file_faults names files at f =
     map (broken_fault at) f.parts.broken
     ++ (export_faults at f
     ++ (flat_map (import_faults names files at) f.unit.imports
-    ++ (flat_map (assertion_faults names (types_named files at f) at f) f.parts.assertions
-    ++ flat_map (clause_faults (names_in_scope files at f) at) f.parts.clauses)))
+    ++ (flat_map (assertion_faults names (kinds_seen files at f) at f) f.parts.assertions
+    ++ flat_map (clause_faults (scope_of files at f) at) f.parts.clauses)))
 
 -- those of files, the first of which is at this place
 abbrev pub faults_from : List Word → List File → ℕ → List File → List Fault

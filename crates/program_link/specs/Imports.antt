@@ -1,8 +1,9 @@
 -- What is seen in a file: its own predicates and types, and those that other files give it.
 -- The headline does not rest on this file.
-use Rattle.std.specs.Prelude.{ℕ, suc, ◌+◌, Bool, true, false, not, ◌&&◌, ◌==◌, ◌||◌, List, [], ◌∷◌, ◌++◌, map, filter, length, if◌then◌else◌}
+use Rattle.std.specs.Prelude.{ℕ, suc, ◌+◌, Bool, true, false, not, ◌&&◌, ◌==◌, nat_eq, ◌||◌, List, [], ◌∷◌, ◌++◌, map, filter, length, if◌then◌else◌}
 use Rattle.std.specs.List.{list_any}
 use Rattle.std.specs.Option.{option_map_or}
+use Rattle.term_core.specs.Terms.{with_new}
 use Rattle.prog_data.specs.declared.grammars.Seen.{Seen}
 use Rattle.ciao_modules.specs.UnitRanges.{exports_of}
 use Rattle.ciao_modules.specs.declared.units.Export.{Export}
@@ -12,7 +13,7 @@ use Rattle.ciao_modules.specs.declared.units.Import.{Import}
 use Rattle.regtype_grammar.specs.declared.modules.RegType.{RegType}
 use Rattle.regtype_grammar.specs.declared.modules.SeenType.{SeenType}
 use Rattle.regtype_grammar.specs.declared.modules.TypeModule.{TypeModule}
-use Rattle.regtype_grammar.specs.TypeNames.{first_names, numbered as kinds_of, unnumbered}
+use Rattle.regtype_grammar.specs.TypeNames.{first_names, numbered as kinds_of}
 use Rattle.body_code.specs.declared.scopes.Named.{Named}
 use Rattle.body_code.specs.declared.scopes.Visible.{Visible}
 use Rattle.program_link.specs.Indicators.{same_indicator}
@@ -75,15 +76,14 @@ type_indicator name = record { name = name; arity = 1 }
 abbrev pub declares : File → ℕ → Bool
 declares f name = list_any (λ d. d.name == name) f.parts.types
 
--- a type at a place and a position, where none of those before it has its name
-abbrev pub first_declared : ℕ → ℕ → List Declared → Declared → List SeenType
-first_declared at position before d =
-    if list_any (λ e. e.name == d.name) before then [] else record { name = d.name; «module» = at; position = position } ∷ []
+-- a type at a place and a position, where its name is none of those before it
+abbrev pub first_declared : ℕ → ℕ → List ℕ → ℕ → List SeenType
+first_declared at position before name = if list_any (nat_eq name) before then [] else record { name = name; «module» = at; position = position } ∷ []
 
--- the types of the file at a place, from a position on, behind those before; a name that is declared again is its first type
-abbrev pub types_behind : ℕ → ℕ → List Declared → List Declared → List SeenType
+-- the types of the file at a place, from a position on, behind these names; a name that is declared again is its first type
+abbrev pub types_behind : ℕ → ℕ → List ℕ → List Declared → List SeenType
 types_behind at position before [] = []
-types_behind at position before (d ∷ ds) = first_declared at position before d ++ types_behind at (suc position) (before ++ d ∷ []) ds
+types_behind at position before (d ∷ ds) = first_declared at position before d.name ++ types_behind at (suc position) (with_new before d.name) ds
 
 -- the types of the file at a place
 abbrev pub own_types : ℕ → File → List SeenType
@@ -117,18 +117,10 @@ type_modules files = type_modules_from files 0 files
 
 -- scopes
 
--- the types that are seen in the file at a place, by their names alone
-abbrev pub types_named : List File → ℕ → File → List Seen
-types_named files at f = unnumbered (types_seen files at f)
-
--- the same by their grammar names
+-- the types that are seen in the file at a place, by their grammar names
 abbrev pub kinds_seen : List File → ℕ → File → List Seen
 kinds_seen files at f = kinds_of (first_names (type_modules files)) (types_seen files at f)
 
--- what is seen in the file at a place, the types by their names alone
-abbrev pub names_in_scope : List File → ℕ → File → Visible
-names_in_scope files at f = record { preds = preds_seen files at f; types = types_named files at f }
-
--- what is seen there, the types by their grammar names
+-- what is seen in the file at a place
 abbrev pub scope_of : List File → ℕ → File → Visible
 scope_of files at f = record { preds = preds_seen files at f; types = kinds_seen files at f }

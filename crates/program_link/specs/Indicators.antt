@@ -16,11 +16,6 @@ is_among p ps = list_any (same_indicator p) ps
 abbrev pub with_indicator : List Indicator → Indicator → List Indicator
 with_indicator ps p = if is_among p ps then ps else ps ++ p ∷ []
 
--- with each of these that is new, in their order
-abbrev pub with_indicators : List Indicator → List Indicator → List Indicator
-with_indicators ps [] = ps
-with_indicators ps (q ∷ qs) = with_indicators (with_indicator ps q) qs
-
 -- the place of one among others, or their number
 abbrev pub place_of : Indicator → List Indicator → ℕ
 place_of p ps = position_or_len (same_indicator p) ps

@@ -2,6 +2,6 @@ pub mod Indicators
 pub mod Sayings
 pub mod Numbering
 pub mod Imports
-pub mod Faults
-pub mod Programs
-pub mod Linked
+pub mod FaultOrder
+pub mod NamedFaults
+pub mod Sources

@@ -1,6 +1,6 @@
 -- Linked: the program of units, or the refusal that comes first.
 -- The headline does not rest on this file.
-use Rattle.std.specs.Prelude.{◌≡◌, ℕ, List, map, slice_get, Option, Some, None}
+use Rattle.std.specs.Prelude.{⊤, ◌≡◌, ℕ, List, map, slice_get, Option, Some, None}
 use Rattle.std.specs.Option.{option_map_or}
 use Rattle.prog_data.specs.declared.programs.Program.{Program}
 use Rattle.prog_data.specs.declared.refusals.Refusal.{Refusal}
@@ -8,7 +8,8 @@ use Rattle.prog_data.specs.declared.refusals.RefusalKind.TheVariants.{TooManyNam
 use Rattle.ciao_modules.specs.FileNames.{Word}
 use Rattle.ciao_modules.specs.declared.units.Unit.{Unit}
 use Rattle.program_link.specs.Sayings.{File, file_of}
-use Rattle.program_link.specs.Faults.{least, all_faults}
+use Rattle.program_link.specs.FaultOrder.{least}
+use Rattle.program_link.specs.Faults.{all_faults}
 use Rattle.program_link.specs.Programs.{program_of}
 use Rattle.program_link.specs.declared.faults.Fault.{Fault}
 use Rattle.program_link.specs.declared.outcomes.LinkFault.{LinkFault}
@@ -51,4 +52,4 @@ linked names units = linked_files names units (map file_of units)
 -- why there is no program: the refusal that comes first, with the names as they were
 abbrev pub IsLinkFault : List Word → List Unit → LinkFault → Type 0
 IsLinkFault names units (fault.Refused refusal back) = (linked names units ≡ Refused refusal) × (back ≡ names)
-IsLinkFault names units fault.NoMemory = Rattle.std.specs.Prelude.⊤
+IsLinkFault names units fault.NoMemory = ⊤

@@ -1,7 +1,7 @@
 -- What the sentences of a unit say.
 -- The headline does not rest on this file.
-use Rattle.std.specs.Prelude.{ℕ, ◌==◌, Bool, ◌&&◌, List, [], ◌∷◌, map, flat_map, Option, Some, None, option_map, option_and_then, if◌then◌else◌}
-use Rattle.term_core.specs.Operands.{before_all}
+use Rattle.std.specs.Prelude.{ℕ, ◌==◌, Bool, ◌&&◌, List, [], ◌∷◌, ◌++◌, Option, Some, None, is_some, option_and_then, if◌then◌else◌}
+use Rattle.std.specs.List.{list_all}
 use Rattle.term_core.specs.Shapes.{is_pair, single_of}
 use Rattle.term_core.specs.declared.fixed.TheConstants.{NECK, GRAMMAR_ARROW, REGTYPE}
 use Rattle.term_core.specs.declared.terms.Term.{Term, out-Term}
@@ -20,7 +20,6 @@ use Rattle.body_code.specs.Clauses.{indicator_of}
 use Rattle.program_link.specs.declared.sayings.Declared.{Declared}
 use Rattle.program_link.specs.declared.sayings.Broken.{Broken}
 use Rattle.program_link.specs.declared.sayings.Parts.{Parts}
-use Rattle.program_link.specs.declared.sayings.ReadClause.{ReadClause}
 use Rattle.program_link.specs.declared.sayings.Saying.{Saying}
 use Rattle.program_link.specs.declared.sayings.Saying.TheVariants.{Clauses, Asserts, Declares, Passes, Breaks}
 
@@ -38,14 +37,9 @@ after_fsyntax fsyntax s = if fsyntax then FunctionalExpanded s else Some (s ∷ 
 abbrev pub expanded : Bool → Bool → Sentence → Option (List Sentence)
 expanded dcg fsyntax s = option_and_then (after_fsyntax fsyntax) (after_dcg dcg s)
 
--- a clause with the predicate of its head; None where no clause may have that head
-abbrev pub read_clause : Sentence → Option ReadClause
-read_clause s = option_map (λ p. record { indicator = p; sentence = s }) (indicator_of s.term)
-
--- clauses with their predicates; None where one has a head that no clause may have
-abbrev pub all_read : List Sentence → Option (List ReadClause)
-all_read [] = Some []
-all_read (s ∷ ss) = before_all (read_clause s) (all_read ss)
+-- whether a clause has a head that clauses may have
+abbrev pub has_head : Sentence → Bool
+has_head s = is_some (indicator_of s.term)
 
 -- sentences
 
@@ -53,15 +47,10 @@ all_read (s ∷ ss) = before_all (read_clause s) (all_read ss)
 abbrev pub breaks : ℕ → RefusalKind → Saying
 breaks line kind = Breaks (record { line = line; kind = kind })
 
--- clauses with their predicates
-abbrev pub heads_said : ℕ → Option (List ReadClause) → Saying
-heads_said line None = breaks line BadClause
-heads_said line (Some clauses) = Clauses clauses
-
 -- a sentence that was expanded to clauses; where one has a head that no clause may have it says nothing else
 abbrev pub clauses_said : ℕ → Option (List Sentence) → Saying
 clauses_said line None = breaks line BadExpansion
-clauses_said line (Some ss) = heads_said line (all_read ss)
+clauses_said line (Some clauses) = if list_all has_head clauses then Clauses clauses else breaks line BadClause
 
 -- a directive that is to be an assertion
 abbrev pub assertion_said : ℕ → Option Assertion → Saying
@@ -96,38 +85,26 @@ saying dcg fsyntax s = said_by dcg fsyntax s (single_of NECK (out-Term s.term))
 
 -- units
 
--- the clauses that a saying is, none of another one
-abbrev pub clauses_in : Saying → List ReadClause
-clauses_in (Clauses clauses) = clauses
-clauses_in other = []
+-- what was said so far, and one saying more: each kind in order
+abbrev pub with_saying : Parts → Saying → Parts
+with_saying p (Clauses clauses) = record p { clauses = p.clauses ++ clauses }
+with_saying p (Asserts a) = record p { assertions = p.assertions ++ a ∷ [] }
+with_saying p (Declares d) = record p { types = p.types ++ d ∷ [] }
+with_saying p Passes = p
+with_saying p (Breaks b) = record p { broken = p.broken ++ b ∷ [] }
 
--- likewise its assertion
-abbrev pub assertions_in : Saying → List Assertion
-assertions_in (Asserts a) = a ∷ []
-assertions_in other = []
+-- what was said so far, and what sentences say in a file with these packages
+abbrev pub parts_behind : Bool → Bool → Parts → List Sentence → Parts
+parts_behind dcg fsyntax p [] = p
+parts_behind dcg fsyntax p (s ∷ ss) = parts_behind dcg fsyntax (with_saying p (saying dcg fsyntax s)) ss
 
--- its type
-abbrev pub types_in : Saying → List Declared
-types_in (Declares d) = d ∷ []
-types_in other = []
-
--- the rule that it breaks
-abbrev pub broken_in : Saying → List Broken
-broken_in (Breaks b) = b ∷ []
-broken_in other = []
-
--- what sayings come to, each kind in order
-abbrev pub parts_said : List Saying → Parts
-parts_said said = record {
-  clauses = flat_map clauses_in said;
-  assertions = flat_map assertions_in said;
-  types = flat_map types_in said;
-  broken = flat_map broken_in said;
-}
+-- before the first sentence
+abbrev pub no_parts : Parts
+no_parts = record { clauses = []; assertions = []; types = []; broken = [] }
 
 -- what the sentences of a unit say
 abbrev pub parts_of_unit : Unit → Parts
-parts_of_unit u = parts_said (map (saying u.dcg u.fsyntax) u.sentences)
+parts_of_unit u = parts_behind u.dcg u.fsyntax no_parts u.sentences
 
 -- a unit with what its sentences say
 pub record File : Type 0 where

@@ -2,8 +2,13 @@
 #![tactic(auto)]
 
 mod drafts;
+mod fault_order;
 mod faults;
+mod indexes;
+mod indicators;
 mod outcomes;
 mod sayings;
+mod sources;
+mod visible;
 
 pub use outcomes::LinkFault;

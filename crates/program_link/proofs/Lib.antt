@@ -1,0 +1,4 @@
+mod FaultLaws
+mod IndexLaws
+mod NumberLaws
+mod SourceLaws
