@@ -1,4 +1,6 @@
 mod FaultLaws
+mod GroupLaws
 mod IndexLaws
+mod LeastLaws
 mod NumberLaws
 mod SourceLaws

@@ -4,4 +4,9 @@ pub mod Numbering
 pub mod Imports
 pub mod FaultOrder
 pub mod NamedFaults
+pub mod Faults
+pub mod Programs
+pub mod Linked
+pub mod Laws
 pub mod Sources
+pub mod Groups

@@ -111,7 +111,10 @@ fn add_import(let_in: &mut LetIn, import: &Import) -> Result<(), NoMemory>
             let_in.whole.insert(import.unit)?;
             Ok(())
         }
-        Some(only) => add_wanted(&mut let_in.wanted, import.unit, only.as_slice()),
+        Some(only) => {
+            add_wanted(&mut let_in.wanted, import.unit, only.as_slice())?;
+            Ok(())
+        }
     }
 }
 
@@ -164,12 +167,12 @@ impl Index {
     fn lets_in(&self, at: u64, indicator: Indicator) -> bool
         ensures { result ≡ index_lets_in self.now at indicator }
     {
-        self.whole.contains(&at)
-            || self.wanted.contains(&Wanted {
-                unit: at,
-                name: indicator.name,
-                arity: indicator.arity,
-            })
+        let wanted = Wanted {
+            unit: at,
+            name: indicator.name,
+            arity: indicator.arity,
+        };
+        self.whole.contains(&at) || self.wanted.contains(&wanted)
     }
 
     /// Whether it gets a predicate from another unit, which is at this place.

@@ -4,11 +4,15 @@
 mod drafts;
 mod fault_order;
 mod faults;
+mod groups;
 mod indexes;
 mod indicators;
+mod laws;
 mod outcomes;
 mod sayings;
+mod scopes;
 mod sources;
 mod visible;
 
+pub use laws::least_fault_law;
 pub use outcomes::LinkFault;

@@ -133,10 +133,10 @@ fn breaks(line: u64, kind: RefusalKind) -> Saying
 }
 
 // A sentence by its expansion.
-fn clauses_said(line: u64, expanded: Option<Items<Sentence>>) -> Saying
-    ensures { result ≡ clauses_said line expanded }
+fn clauses_said(line: u64, found: Option<Items<Sentence>>) -> Saying
+    ensures { result ≡ clauses_said line found }
 {
-    match expanded {
+    match found {
         None => breaks(line, RefusalKind::BadExpansion),
         Some(clauses) => {
             if have_heads(clauses.as_slice()) {
@@ -220,7 +220,7 @@ fn directive_said(
 }
 
 // What a sentence says in a file with these packages.
-fn saying(
+fn sentence_said(
     alloc: Global,
     names: &Names,
     dcg: bool,
@@ -243,13 +243,24 @@ fn add_saying(parts: &mut Parts, saying: Saying) -> Result<(), NoMemory>
     ensures { OnOk result (parts.new ≡ with_saying parts.old saying) }
 {
     match saying {
-        Saying::Clauses(clauses) => parts.clauses.append(clauses)?,
-        Saying::Asserts(assertion) => parts.assertions.push(assertion)?,
-        Saying::Declares(declared) => parts.types.push(declared)?,
-        Saying::Passes => {}
-        Saying::Breaks(broken) => parts.broken.push(broken)?,
+        Saying::Clauses(clauses) => {
+            parts.clauses.append(clauses)?;
+            Ok(())
+        }
+        Saying::Asserts(assertion) => {
+            parts.assertions.push(assertion)?;
+            Ok(())
+        }
+        Saying::Declares(declared) => {
+            parts.types.push(declared)?;
+            Ok(())
+        }
+        Saying::Passes => Ok(()),
+        Saying::Breaks(broken) => {
+            parts.broken.push(broken)?;
+            Ok(())
+        }
     }
-    Ok(())
 }
 
 /// What the sentences of a unit say.
@@ -263,7 +274,7 @@ pub(crate) fn parts_of_unit(alloc: Global, names: &Names, unit: &Unit) -> Result
         broken: Items::new(alloc),
     };
     for sentence in unit.sentences.as_slice() {
-        let said = saying(alloc, names, unit.dcg, unit.fsyntax, sentence)?;
+        let said = sentence_said(alloc, names, unit.dcg, unit.fsyntax, sentence)?;
         add_saying(&mut parts, said)?;
     }
     Ok(parts)

@@ -17,9 +17,10 @@ use term_core::NoMemory;
 fn add_pred_where(preds: &mut Items<Named>, wanted: bool, named: Named) -> Result<(), NoMemory>
     ensures { OnOk result (preds.new ≡ preds.old ++ (if wanted then named ∷ [] else [])) }
 {
-    if wanted {
-        preds.push(named)?;
+    if !wanted {
+        return Ok(());
     }
+    preds.push(named)?;
     Ok(())
 }
 
@@ -69,9 +70,10 @@ pub(crate) fn preds_seen(
 fn add_type_where(types: &mut Items<SeenType>, wanted: bool, seen: SeenType) -> Result<(), NoMemory>
     ensures { OnOk result (types.new ≡ types.old ++ (if wanted then seen ∷ [] else [])) }
 {
-    if wanted {
-        types.push(seen)?;
+    if !wanted {
+        return Ok(());
     }
+    types.push(seen)?;
     Ok(())
 }
 
