@@ -1,5 +1,5 @@
 -- Of the troubles of one assertion's names the first is told.
-use Rattle.std.proofs.Common.{◌≡◌, ◌⊎◌, inl, inr, ℕ, zero, suc, ◌<◌, nat_lt, Bool, true, false, List, [], ◌∷◌, ◌++◌, length, slice_index_or, refl, ap, sym, ◌∙◌, arith}
+use Rattle.std.proofs.Common.{◌≡◌, ◌⊎◌, inl, inr, ℕ, zero, suc, ◌<◌, nat_lt, Bool, true, false, List, [], ◌∷◌, ◌++◌, length, slice_index_or, refl, ap, sym, ◌∙◌, ◌↔◌, arith}
 use Rattle.std.specs.Prelude.{cond, Contains, Option, Some, None}
 use Rattle.term_core.proofs.OperandLaws.{none_part, some_part}
 use Rattle.prog_data.specs.declared.grammars.Seen.{Seen}
@@ -8,7 +8,7 @@ use Rattle.assertion_normal.specs.declared.troubles.Trouble.{Trouble}
 use Rattle.assertion_normal.specs.declared.troubles.Trouble.TheVariants as what
 use Rattle.assertion_normal.specs.Settling.{counts}
 use Rattle.assertion_normal.specs.Troubles.{rank, worse, worst_from, own_troubles, own_trouble, trouble_of}
-use Rattle.assertion_normal.specs.Laws.{OwnTroubleIsTold}
+use Rattle.assertion_normal.specs.Laws.{HasTrouble, OwnTroubleIsTold}
 
 -- an item is one of a list
 abbrev Has : {A : Type 0} → List A → A → Type 0
@@ -119,17 +119,17 @@ module _ (names : List (List ℕ)) (seen : List Seen) (a : Assertion) where
   own_several : Contains (own_troubles names seen a) several → (Contains (own_troubles names seen a) unknown → ⊥) → own_trouble names seen a ≡ several
   own_several h n = several_first (own_troubles names seen a) (has_one what.Several h) (λ k. n (contains (own_troubles names seen a) unknown k))
 
+  unknown_told : (trouble_of names seen a ≡ unknown) ↔ HasTrouble names seen a what.Unknown
+  unknown_told = ((λ e. let told = told_by what.Unknown e in (told.0, one_has what.Unknown told.1)), (λ h. is_told what.Unknown h.0 (own_unknown h.1)))
+
+  several_told : (trouble_of names seen a ≡ several) ↔ (HasTrouble names seen a what.Several × (HasTrouble names seen a what.Unknown → ⊥))
+  several_told = (
+    (λ e. let told = told_by what.Several e in ((told.0, one_has what.Several told.1), (λ h. unlike (sym (own_unknown h.1) ∙ told.1)))),
+    (λ h. is_told what.Several h.0.0 (own_several h.0.1 (λ k. h.1 (h.0.0, k)))),
+  )
+
 pub own_trouble_told : OwnTroubleIsTold
-own_trouble_told = record {
-  unknown = λ names seen a. (
-    (λ e. let told = told_by names seen a what.Unknown e in (told.0, one_has names seen a what.Unknown told.1)),
-    (λ h. is_told names seen a what.Unknown h.0 (own_unknown names seen a h.1)),
-  );
-  several = λ names seen a. (
-    (λ e. let told = told_by names seen a what.Several e in ((told.0, one_has names seen a what.Several told.1), (λ h. unlike (sym (own_unknown names seen a h.1) ∙ told.1)))),
-    (λ h. is_told names seen a what.Several h.0.0 (own_several names seen a h.0.1 (λ k. h.1 (h.0.0, k)))),
-  );
-}
+own_trouble_told = record { unknown = λ names seen a. unknown_told names seen a; several = λ names seen a. several_told names seen a }
 
 -- the code, which goes over the three lists one after the other
 worst_append : (found : Option Trouble) (xs ys : List (Option Trouble)) → worst_from found (xs ++ ys) ≡ worst_from (worst_from found xs) ys

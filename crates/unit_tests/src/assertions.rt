@@ -79,9 +79,18 @@ const ROWS: [(&str, &str); 98] = [
         "1 check pred p/3 : int 0 atm 1 gnd 2",
     ),
     (":- pred p/1 : true.", "1 check pred p/1 : true 0"),
-    (":- calls p/2 : int * list(atm).", "1 check calls p/2 : int 0 list 1 atm"),
-    (":- success p/1 : int => list.", "1 check success p/1 : int 0 => list 0"),
-    (":- entry p/1 : list(int).", "1 check entry p/1 : list 0 int"),
+    (
+        ":- calls p/2 : int * list(atm).",
+        "1 check calls p/2 : int 0 list 1 atm",
+    ),
+    (
+        ":- success p/1 : int => list.",
+        "1 check success p/1 : int 0 => list 0",
+    ),
+    (
+        ":- entry p/1 : list(int).",
+        "1 check entry p/1 : list 0 int",
+    ),
     (":- pred p/0 + fails.", "1 check pred p/0 + fails"),
     (":- pred p/0 : true.", "bad 1"),
     (":- pred p/2 : int.", "bad 1"),

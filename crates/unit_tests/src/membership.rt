@@ -159,14 +159,15 @@ fn nested(
     Ok(term)
 }
 
+// A list ten times as long, which needs more stack than an interpreter has, is tried in `analysis_tests`.
 #[test]
 fn long_and_deep_terms_belong_to_names(rt: HostRuntime) -> Result<(), Fail> {
     let alloc = rt.alloc();
     let mut names = Names::new(alloc)?;
     let grammar = grammar(alloc, &mut names)?;
     let (a, g) = (names.intern("a")?, names.intern("g")?);
-    let list = nested(alloc, CELL, true, 10_000, Term::Atom(NIL))?;
-    let open = nested(alloc, CELL, true, 10_000, Term::Var(0))?;
+    let list = nested(alloc, CELL, true, 1_000, Term::Atom(NIL))?;
+    let open = nested(alloc, CELL, true, 1_000, Term::Var(0))?;
     let deep = nested(alloc, g, false, 1_000, Term::Atom(a))?;
     assert!(rt; belongs(&grammar, 10, &list));
     assert!(rt; belongs(&grammar, 17, &list));

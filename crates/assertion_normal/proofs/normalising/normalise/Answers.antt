@@ -3,7 +3,11 @@ use Rattle.std.specs.Prelude.{Some, option_map}
 use Rattle.assertion_normal.specs.Conditions.{normal_of}
 use Rattle.assertion_normal.specs.Normals.{given}
 use Rattle.assertion_normal.proofs.ConditionRanges.{normal_stays}
+use Rattle.assertion_normal.proofs.GrownLaws.{grown_self}
 use Rattle.assertion_normal.proofs.normalising.normalise.Goals as goal
+
+pub returns-in-Some-clause-grown : goal.returns-in-Some-clause-grown
+returns-in-Some-clause-grown c = grown_self c.args.visible.now c.args.grammar.now
 
 pub returns-in_ok-normal-in-None-clause-range : goal.returns-in_ok-normal-in-None-clause-range
 returns-in_ok-normal-in-None-clause-range c =

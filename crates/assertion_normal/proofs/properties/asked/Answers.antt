@@ -5,7 +5,14 @@ use Rattle.regtype_grammar.specs.Grammars.{number}
 use Rattle.assertion_normal.specs.Properties.{type_name}
 use Rattle.assertion_normal.specs.Settling.{IsNoRoom}
 use Rattle.assertion_normal.proofs.AskedLaws.{list_asked, ten_names, number_below}
+use Rattle.assertion_normal.proofs.GrownLaws.{grown_self}
 use Rattle.assertion_normal.proofs.properties.asked.Goals as goal
+
+pub returns-then-needs_no_type-clause-grown : goal.returns-then-needs_no_type-clause-grown
+returns-then-needs_no_type-clause-grown c = grown_self c.args.visible.now c.args.grammar.now
+
+pub returns-in-None-clause-grown : goal.returns-in-None-clause-grown
+returns-in-None-clause-grown c = grown_self c.args.visible.now c.args.grammar.now
 
 pub returns-in_err-prop-in-Some-clause-err : goal.returns-in_err-prop-in-Some-clause-err
 returns-in_err-prop-in-Some-clause-err c =
@@ -19,6 +26,7 @@ returns-in_err-prop-in-Some-clause-grown c =
     let is = c.number-kind.ensures ∙ ap number (c.type_meant.ensures ∙ ap (meaning c.args.visible.now) c.type_name.ensures) in
     record {
       grows = c.asked_list.ensures.grows;
+      named = c.asked_list.ensures.named;
       range = λ h s. c.asked_list.ensures.range h
           (subst (λ n. n < length c.args.grammar.now.rules) (sym is) (number_below c.meanings_law.ensures c.args.visible.now (type_name c.args.written) (length c.args.grammar.now.rules) (ten_names c.args.grammar.now h) s));
     }
@@ -28,6 +36,7 @@ returns-in_ok-prop-in-Some-clause-grown c =
     let is = c.number-kind.ensures ∙ ap number (c.type_meant.ensures ∙ ap (meaning c.args.visible.now) c.type_name.ensures) in
     record {
       grows = c.asked_list.ensures.grows;
+      named = c.asked_list.ensures.named;
       range = λ h s. c.asked_list.ensures.range h
           (subst (λ n. n < length c.args.grammar.now.rules) (sym is) (number_below c.meanings_law.ensures c.args.visible.now (type_name c.args.written) (length c.args.grammar.now.rules) (ten_names c.args.grammar.now h) s));
     }

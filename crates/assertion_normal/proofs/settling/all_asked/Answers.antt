@@ -3,9 +3,15 @@ use Rattle.std.specs.Prelude.{None}
 use Rattle.std.proofs.lemmas.List.{at_drop_more}
 use Rattle.assertion_normal.specs.Properties.{asked}
 use Rattle.assertion_normal.specs.Settling.{in_order}
-use Rattle.assertion_normal.proofs.GrownLaws.{grown_then}
+use Rattle.assertion_normal.proofs.GrownLaws.{grown_self, grown_then}
 use Rattle.assertion_normal.proofs.OrderLaws.{order_next}
 use Rattle.assertion_normal.proofs.settling.all_asked.Goals as goal
+
+pub loop-written-init : goal.loop-written-init
+loop-written-init c = record {
+  order = ap (λ props. in_order (asked c.args.visible.now) (c.args.grammar.now, props) c.args.list.now) c.new-props.ensures;
+  grown = grown_self c.args.visible.now c.args.grammar.now;
+}
 
 pub returns-in_err-prop-clause-grown : goal.returns-in_err-prop-clause-grown
 returns-in_err-prop-clause-grown c = grown_then c.args.visible.now c.args.grammar.now c.loop-written.grammar c.asked.new.grammar c.loop-written.invariant.grown c.asked.ensures.grown

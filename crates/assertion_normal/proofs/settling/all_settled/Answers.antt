@@ -1,9 +1,15 @@
-use Rattle.std.proofs.Common.{◌+◌, drop, sym, ◌∙◌, subst}
+use Rattle.std.proofs.Common.{◌+◌, drop, ap, sym, ◌∙◌, subst}
 use Rattle.std.proofs.lemmas.Result.{err_from_is_err_and}
 use Rattle.term_core.proofs.Turns.{turn}
 use Rattle.assertion_normal.specs.Settling.{counting, in_order, settled, IsNoRoom}
-use Rattle.assertion_normal.proofs.GrownLaws.{grown_then}
+use Rattle.assertion_normal.proofs.GrownLaws.{grown_self, grown_then}
 use Rattle.assertion_normal.proofs.settling.all_settled.Goals as goal
+
+pub loop-assertion-init : goal.loop-assertion-init
+loop-assertion-init c = record {
+  order = ap (λ all. in_order (settled c.args.names.now c.args.visible.now) (c.args.grammar.now, all) (counting c.args.list.now)) c.new-all.ensures;
+  grown = grown_self c.args.visible.now c.args.grammar.now;
+}
 
 pub returns-in_err-all-clause-err : goal.returns-in_err-all-clause-err
 returns-in_err-all-clause-err c =
