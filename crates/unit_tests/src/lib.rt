@@ -6,6 +6,8 @@ mod arithmetic;
 #[cfg(test)]
 mod assertions;
 #[cfg(test)]
+mod clauses;
+#[cfg(test)]
 mod file_sets;
 #[cfg(test)]
 mod functions;
