@@ -66,11 +66,11 @@ module _ {A : Type 0} (same : A → A → Bool) (is : (x y : A) → same x y ≡
       by true e = known (test y) refl e
       by false e = last
 
-or_again : (a b c : Bool) → ((a || b) || c) ≡ (a || (b || c))
+pub or_again : (a b c : Bool) → ((a || b) || c) ≡ (a || (b || c))
 or_again true b c = refl
 or_again false b c = refl
 
-or_nothing : (a : Bool) → a ≡ (a || false)
+pub or_nothing : (a : Bool) → a ≡ (a || false)
 or_nothing true = refl
 or_nothing false = refl
 

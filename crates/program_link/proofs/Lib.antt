@@ -3,4 +3,5 @@ mod GroupLaws
 mod IndexLaws
 mod LeastLaws
 mod NumberLaws
+mod ReadLaws
 mod SourceLaws

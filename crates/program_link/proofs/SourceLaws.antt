@@ -1,13 +1,17 @@
 -- What is held of units says what the units say of one another.
-use Rattle.std.proofs.Common.{◌≡◌, ℕ, suc, ◌+◌, Bool, true, false, not, ◌&&◌, ◌||◌, ◌==◌, List, [], ◌∷◌, ◌++◌, filter, length, refl, ap, sym, subst, ◌∙◌, append_assoc, absurd, arith}
+use Rattle.std.proofs.Common.{◌≡◌, ◌<◌, ℕ, suc, ◌+◌, Bool, true, false, not, ◌&&◌, ◌||◌, ◌==◌, List, [], ◌∷◌, ◌++◌, map, filter, length, get_or, drop, refl, ap, sym, subst, ◌∙◌, append_assoc, append-nil, arith}
 use Rattle.std.specs.Prelude.{nat_eq}
 use Rattle.std.specs.List.{list_any}
 use Rattle.std.proofs.lemmas.Bool.{eqb-true}
 use Rattle.std.proofs.lemmas.Bool.Decides.{nat_tests}
 use Rattle.term_core.specs.Terms.{with_new}
+use Rattle.term_core.proofs.Turns.{turn}
+use Rattle.regtype_grammar.specs.declared.modules.SeenType.{SeenType}
+use Rattle.ciao_modules.specs.declared.units.Unit.{Unit}
+use Rattle.body_code.specs.declared.scopes.Named.{Named}
 use Rattle.body_code.specs.declared.faults.Indicator.{Indicator}
 use Rattle.program_link.specs.Indicators.{is_among}
-use Rattle.program_link.specs.Sayings.{File}
+use Rattle.program_link.specs.Sayings.{File, file_of}
 use Rattle.program_link.specs.Numbering.{indicators, defines, numbered}
 use Rattle.program_link.specs.Imports.{gets, indicator_named, imported, type_indicator, declares, own_types, imported_types}
 use Rattle.program_link.specs.Sources.{index_gets, IsIndex, IsSource, AreSources, preds_given, types_given, type_names_behind}
@@ -63,3 +67,46 @@ pub held_next : (at first next : ℕ) (f : File) (left all : List File) (done : 
     → Held at first (f ∷ left) all done → Held (suc at) next left all (done ++ s ∷ [])
 held_next at first next f left all done s is e held rest are =
     subst (AreSources 0 0 all) (sym (append_assoc done (s ∷ []) rest)) (held (s ∷ rest) (is, subst (λ n. AreSources (suc at) n left rest) e are))
+
+-- a turn of the loop over units
+pub held_turn : (units : List Unit) (all : List File) (at first next : ℕ) (u : Unit) (done new : List Source) (s : Source) → at < length units → u ≡ get_or units at u
+    → IsSource at first (file_of u) s → next ≡ length (indicators (file_of u)) + first → new ≡ done ++ s ∷ []
+    → Held at first (map file_of (drop at units)) all done → Held (at + 1) next (map file_of (drop (at + 1) units)) all new
+held_turn units all at first next u done new s lt e is count pushed held =
+    let left = map file_of (drop (at + 1) units) in
+    let same : suc at ≡ at + 1 = omega arith in
+    let opened : map file_of (drop at units) ≡ file_of u ∷ left = turn (map file_of) units at u lt e in
+    subst (λ n. Held n next left all new) same
+    (subst (λ ss. Held (suc at) next left all ss) (sym pushed) (held_next at first next (file_of u) left all done s is count (subst (λ fs. Held at first fs all done) opened held)))
+
+-- behind the last unit
+pub held_end : (all left : List File) (at first : ℕ) (done : List Source) → left ≡ [] → Held at first left all done → AreSources 0 0 all done
+held_end all left at first done e held =
+    let none : Held at first [] all done = subst (λ fs. Held at first fs all done) e held in
+    subst (AreSources 0 0 all) (append-nil done) (none [] refl)
+
+-- turns of the loops over what others give
+
+pub preds_next : (x : Index) (ss : List Source) (k : ℕ) (s : Source) (old new all : List Named) → k < length ss → s ≡ get_or ss k s
+    → new ≡ old ++ filter (λ m. index_gets x k s.index (indicator_named m) && not (is_among (indicator_named m) x.defined.keys)) s.preds
+    → old ++ preds_given x k (drop k ss) ≡ all → new ++ preds_given x (k + 1) (drop (k + 1) ss) ≡ all
+preds_next x ss k s old new all lt e is held =
+    let given = filter (λ m. index_gets x k s.index (indicator_named m) && not (is_among (indicator_named m) x.defined.keys)) s.preds in
+    let same : k + 1 ≡ suc k = omega arith in
+    ap (λ ns. ns ++ preds_given x (k + 1) (drop (k + 1) ss)) is
+    ∙ append_assoc old given (preds_given x (k + 1) (drop (k + 1) ss))
+    ∙ ap (λ n. old ++ (given ++ preds_given x n (drop (k + 1) ss))) same
+    ∙ ap (λ ns. old ++ ns) (sym (turn (preds_given x k) ss k s lt e))
+    ∙ held
+
+pub types_next : (f : Source) (ss : List Source) (k : ℕ) (s : Source) (old new all : List SeenType) → k < length ss → s ≡ get_or ss k s
+    → new ≡ old ++ filter (λ t. index_gets f.index k s.index (type_indicator t.name) && not (list_any (nat_eq t.name) f.declared.keys)) s.types
+    → old ++ types_given f k (drop k ss) ≡ all → new ++ types_given f (k + 1) (drop (k + 1) ss) ≡ all
+types_next f ss k s old new all lt e is held =
+    let given = filter (λ t. index_gets f.index k s.index (type_indicator t.name) && not (list_any (nat_eq t.name) f.declared.keys)) s.types in
+    let same : k + 1 ≡ suc k = omega arith in
+    ap (λ ns. ns ++ types_given f (k + 1) (drop (k + 1) ss)) is
+    ∙ append_assoc old given (types_given f (k + 1) (drop (k + 1) ss))
+    ∙ ap (λ n. old ++ (given ++ types_given f n (drop (k + 1) ss))) same
+    ∙ ap (λ ns. old ++ ns) (sym (turn (types_given f k) ss k s lt e))
+    ∙ held

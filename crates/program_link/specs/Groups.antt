@@ -1,11 +1,11 @@
 -- Places of clauses and of assertions, by predicate. Contracts of private functions alone.
 -- The headline does not rest on this file.
-use Rattle.std.specs.Prelude.{◌≡◌, ◌<◌, ℕ, suc, ◌==◌, Bool, false, List, [], ◌∷◌, ◌++◌, length, slice_index_or, Option, Some, None, option_map, if◌then◌else◌}
+use Rattle.std.specs.Prelude.{◌≡◌, ◌<◌, ℕ, suc, ◌==◌, Bool, false, List, [], ◌∷◌, ◌++◌, length, slice_index_or, position, Option, Some, None, option_and_then, if◌then◌else◌}
 use Rattle.ciao_reader.specs.declared.sentences.Sentence.{Sentence}
 use Rattle.assertion_read.specs.declared.assertions.Assertion.{Assertion}
 use Rattle.body_code.specs.Clauses.{indicator_of}
 use Rattle.body_code.specs.declared.faults.Indicator.{Indicator}
-use Rattle.program_link.specs.Indicators.{place_of}
+use Rattle.program_link.specs.Indicators.{same_indicator}
 use Rattle.program_link.specs.Numbering.{asserted}
 
 -- whether this place is the number of a predicate
@@ -20,11 +20,11 @@ places_of test n (x ∷ xs) = (if test x then n ∷ [] else []) ++ places_of tes
 
 -- where the predicate of a clause is among others
 abbrev pub clause_place : List Indicator → Sentence → Option ℕ
-clause_place ps s = option_map (λ p. place_of p ps) (indicator_of s.term)
+clause_place ps s = option_and_then (λ p. position (same_indicator p) ps) (indicator_of s.term)
 
 -- where that of an assertion is
 abbrev pub assertion_place : List Indicator → Assertion → Option ℕ
-assertion_place ps a = Some (place_of (asserted a) ps)
+assertion_place ps a = position (same_indicator (asserted a)) ps
 
 -- a place is added to one group, if it is there
 pub record HasPlace (old new : List (List ℕ)) (at : Option ℕ) (place : ℕ) : Type 0 where

@@ -93,7 +93,7 @@ fn is_everywhere(file: &str, indicator: Indicator) -> bool
 
 // Whether a unit, if it is there, has a predicate for those that name it.
 fn is_offered(names: &Names, source: Option<&Source>, indicator: Indicator) -> bool
-    ensures { result ≡ source_offers names.now indicator (option_copied source) }
+    ensures { result ≡ source_offers names.now indicator (option_copied source.entry) }
 {
     match source {
         None => false,

@@ -2,7 +2,7 @@
 ghost use Rattle.std.specs.Prelude.{◌≡◌, ℕ, [], length, slice_index_or, IfOk, OnOk};
 ghost use Rattle.program_link.specs.Groups.{HasPlace, AreGroups, clause_place, assertion_place};
 
-use crate::indicators::place_of;
+use crate::indicators::find;
 use assertion_read::Assertion;
 use body_code::{Indicator, clause_indicator};
 use ciao_reader::Sentence;
@@ -46,7 +46,7 @@ fn clause_place(defined: &IndexSet<Indicator>, clause: &Sentence) -> Option<u64>
 {
     match clause_indicator(&clause.term) {
         None => None,
-        Some(indicator) => Some(place_of(defined, indicator)),
+        Some(indicator) => find(defined, indicator),
     }
 }
 
@@ -73,7 +73,7 @@ fn assertion_place(defined: &IndexSet<Indicator>, assertion: &Assertion) -> Opti
         name: assertion.name,
         arity: assertion.arity,
     };
-    Some(place_of(defined, indicator))
+    find(defined, indicator)
 }
 
 /// The places of the assertions about each predicate.

@@ -1,6 +1,6 @@
 // Predicates found by their names and numbers of arguments.
-ghost use Rattle.std.specs.Prelude.{◌≡◌, ◌+◌, [], length, IfOk, OnOk};
-ghost use Rattle.program_link.specs.Indicators.{is_among, with_indicator, place_of};
+ghost use Rattle.std.specs.Prelude.{◌≡◌, ◌+◌, [], length, position, IfOk, OnOk};
+ghost use Rattle.program_link.specs.Indicators.{same_indicator, is_among, with_indicator, place_of};
 ghost use Rattle.program_link.specs.Numbering.{with_head, heads_behind, numbered};
 
 use body_code::{Indicator, Named, clause_indicator};
@@ -26,13 +26,13 @@ pub(crate) fn is_among(index: &IndexSet<Indicator>, indicator: Indicator) -> boo
     index.contains(&indicator)
 }
 
-/// The place of a predicate, or their number.
-pub(crate) fn place_of(index: &IndexSet<Indicator>, indicator: Indicator) -> u64
-    ensures { result ≡ place_of indicator index.now.keys }
+/// The place of a predicate, if it is there.
+pub(crate) fn find(index: &IndexSet<Indicator>, indicator: Indicator) -> Option<u64>
+    ensures { result ≡ position (same_indicator indicator) index.now.keys }
 {
     match index.get_index_of(&indicator) {
-        Some(at) => at as u64,
-        None => index.len() as u64,
+        Some(at) => Some(at as u64),
+        None => None,
     }
 }
 

@@ -4,5 +4,5 @@ use Rattle.program_link.proofs.sayings.parts_of_unit.Given as goal
 
 abbrev pub invariant-loop-sentence : goal.invariant-loop-sentence
 invariant-loop-sentence l =
-    parts_behind l.fn.unit.now.dcg l.fn.unit.now.fsyntax l.parts (drop l.sentence-index l.sentence-items)
-    ≡ parts_behind l.fn.unit.now.dcg l.fn.unit.now.fsyntax no_parts l.sentence-items
+    parts_behind l.fn.unit.dcg l.fn.unit.fsyntax l.parts (drop l.sentence-index l.sentence-items)
+    ≡ parts_behind l.fn.unit.dcg l.fn.unit.fsyntax no_parts l.sentence-items
