@@ -9,10 +9,10 @@ ghost use Rattle.engine_state.specs.Stages.{phase_of};
 ghost use Rattle.sld_engine.specs.Running.{IsRunning};
 ghost use Rattle.sld_engine.specs.Runs.{left_of, program_of, bound_of, reading_of, tests_of, Starts, HasTold};
 
-use engine_moves::Reading;
-use crate::state::RunState;
 use crate::starting::{Start, start_engine};
+use crate::state::RunState;
 use crate::turning::{Told, go_on};
+use engine_moves::Reading;
 use engine_state::Stage;
 use machine_model::leaner_law;
 use prog_data::{Event, Program, called_by};
