@@ -1,11 +1,11 @@
 -- A call whose arguments are in cells.
-use Rattle.std.proofs.Common.{◌≡◌, ◌≤◌, ◌<◌, ◌⊎◌, inl, inr, ◌+◌, ℕ, zero, List, [], ◌∷◌, ◌++◌, map, reverse, length, refl, sym, ap, subst, ◌∙◌, arith, true≢false}
+use Rattle.std.proofs.Common.{◌≡◌, ◌≤◌, ◌<◌, ◌⊎◌, inl, inr, ◌+◌, ℕ, zero, List, [], ◌∷◌, map, reverse, length, refl, sym, ap, subst, ◌∙◌, arith, true≢false}
 use Rattle.std.specs.Prelude.{Bool, true, false, nat_le, ◌==◌, ◌||◌}
 use Rattle.std.specs.List.{list_all, list_any, AllByRecursion}
 use Rattle.std.proofs.lemmas.Bool.{cases_lt, and_parts, ne_eqb}
 use Rattle.std.proofs.lemmas.Bool.Decides.{nat_tests}
 use Rattle.term_core.specs.declared.terms.Term.{Term, Var}
-use Rattle.term_core.specs.Terms.{instance, occurs, occurs_step, above, above_step, greatest}
+use Rattle.term_core.specs.Terms.{occurs, occurs_step, above, above_step, greatest}
 use Rattle.term_core.specs.Ranges.{has_names}
 use Rattle.term_core.proofs.TermFolds.{fold-Var, fold-Int, fold-Atom, fold-Node, ind_terms}
 use Rattle.term_core.proofs.Occurrences.{occurs-Node, occurs-Var}
@@ -15,7 +15,7 @@ use Rattle.prog_data.specs.declared.programs.Program.{Program}
 use Rattle.prog_data.specs.Goals.{goal_instance, pred_of}
 use Rattle.prog_data.specs.Ranges.{is_term_of, is_pred_of, is_call_of, is_goal_of, goal_step}
 use Rattle.prog_data.proofs.GoalFolds.{fold-Call}
-use Rattle.machine_model.specs.State.{Does, Doing, Choice, State, Frame}
+use Rattle.machine_model.specs.State.{Does, Doing, State, Frame}
 use Rattle.machine_model.specs.Leaner.{IsLeaner}
 use Rattle.machine_model.specs.LeanerLaws.{AreBelow, IsFrameBelow, LeanerStatesAreFound}
 use Rattle.term_heap.specs.Changes.{Change, Grows, History, size_of, value_of, places, next_serial, IsMade}
@@ -27,7 +27,7 @@ use Rattle.engine_state.specs.declared.stages.Setting.{Setting}
 use Rattle.engine_state.specs.declared.stages.Stage.TheVariants as stage
 use Rattle.engine_state.specs.Engines.{Task, Runs, choices_of, as_state}
 use Rattle.engine_state.specs.Views.{as_links, as_points}
-use Rattle.engine_state.specs.Moments.{IsCallPlaced, IsGoalPlaced, HasMoments}
+use Rattle.engine_state.specs.Moments.{IsCallPlaced, HasMoments}
 use Rattle.engine_state.specs.Within.{AreTasksWithin, ArePointsWithin}
 use Rattle.engine_state.specs.Stages.{as_engine, choices_at, tasks_at, frame_now, goal_state, call_frame, IsKept, IsDue}
 use Rattle.engine_state.specs.Turns.{HasBecome}

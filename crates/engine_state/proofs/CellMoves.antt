@@ -7,7 +7,6 @@ use Rattle.std.proofs.lemmas.Bool.Decides.{nat_tests}
 use Rattle.std.proofs.lemmas.Option.{none-some, same_Some}
 use Rattle.term_core.specs.declared.terms.Term.{Term}
 use Rattle.term_core.specs.declared.equations.Equation.{Equation}
-use Rattle.term_core.specs.declared.equations.Outcome.{Outcome}
 use Rattle.term_core.specs.declared.equations.Outcome.TheVariants as outcome
 use Rattle.term_core.specs.Terms.{instance}
 use Rattle.term_core.specs.Unify.{Unified}
@@ -28,16 +27,16 @@ use Rattle.machine_model.specs.State.{Frame, Choice, State, Going, Over, frame_i
 use Rattle.machine_model.specs.Tests.{Tests}
 use Rattle.machine_model.specs.Step.{Equates, entered, quietly}
 use Rattle.machine_model.specs.Leaner.{clause_at, IsLeaner}
-use Rattle.machine_model.specs.LeanerLaws.{LeanerTellsTheSame, LeanerStatesAreFound, below, AreBelow, IsFrameBelow, before_goal, before_try, after_try, head_equations}
+use Rattle.machine_model.specs.LeanerLaws.{LeanerTellsTheSame, LeanerStatesAreFound, below, AreBelow, IsFrameBelow, before_goal, before_try, head_equations}
 use Rattle.term_heap.specs.Changes.{Change, size_of, value_of, IsMade}
 use Rattle.unify_core.specs.Heads as heads
 use Rattle.unify_core.specs.Unifies.{HasUnified}
 use Rattle.unify_core.specs.declared.unifying.Unified as code
 use Rattle.unify_core.specs.declared.unifying.Unified.TheVariants.{Same, Clash, Cyclic}
 use Rattle.engine_state.specs.Engines.{Exit, Task, Leaves, Pending, frame_with, call_with}
-use Rattle.engine_state.specs.Within.{IsTaskWithin, AreTasksWithin}
+use Rattle.engine_state.specs.Within.{AreTasksWithin}
 use Rattle.engine_state.specs.Moves.{Moves}
-use Rattle.engine_state.specs.StepsMade.{doing, failing, equation, effect_of}
+use Rattle.engine_state.specs.StepsMade.{doing, failing, effect_of}
 use Rattle.engine_state.specs.MoveLaws.{entered_tasks}
 use Rattle.engine_state.specs.CellMoves.{IsRanged, IsMatched, CellsMove}
 use Rattle.engine_state.proofs.WithinLaws.{tasks_within, variables_within, goal_closed}

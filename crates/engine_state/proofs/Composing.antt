@@ -8,7 +8,7 @@ use Rattle.machine_model.specs.State.{State, Phase, Going, Over, Trace}
 use Rattle.machine_model.specs.Tests.{Tests}
 use Rattle.machine_model.specs.Step.{step, quietly}
 use Rattle.machine_model.specs.Run.{steps, then_trace, RunsFrom}
-use Rattle.machine_model.specs.Continues.{Left, at_phase, left_after, ContinuesAfter, Continues, Leads}
+use Rattle.machine_model.specs.Continues.{Left, at_phase, left_after, ContinuesAfter, Leads}
 use Rattle.machine_model.specs.Leaner.{IsLeaner}
 use Rattle.machine_model.specs.LeanerLaws.{IsDone, LeanerStates, TellTheSame}
 use Rattle.machine_model.proofs.Continuing.{then_leads, step_leads}

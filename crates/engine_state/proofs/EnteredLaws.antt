@@ -1,5 +1,5 @@
 -- A clause that is tried over cells is the one that the semantics tries.
-use Rattle.std.proofs.Common.{◌≡◌, ℕ, ◌+◌, Bool, true, false, List, [], ◌∷◌, map, length, replicate, refl, sym, ap, ◌∙◌, arith}
+use Rattle.std.proofs.Common.{◌≡◌, ℕ, ◌+◌, Bool, true, false, List, ◌∷◌, map, length, replicate, refl, sym, arith}
 use Rattle.std.specs.Prelude.{if◌then◌else◌}
 use Rattle.term_core.specs.declared.terms.Term.{Term}
 use Rattle.term_core.specs.Terms.{instance, higher, rename}
@@ -7,7 +7,7 @@ use Rattle.term_core.specs.Unify.{pairs}
 use Rattle.prog_data.specs.declared.programs.Clause.{Clause}
 use Rattle.prog_data.specs.declared.programs.Program.{Program}
 use Rattle.prog_data.specs.Goals.{goal_instance, without_exit}
-use Rattle.machine_model.specs.State.{Item, Does, Exits}
+use Rattle.machine_model.specs.State.{Does, Exits}
 use Rattle.machine_model.specs.Tests.{Tests}
 use Rattle.machine_model.specs.Step.{entered}
 use Rattle.machine_model.specs.LeanerLaws.{head_equations}
@@ -15,7 +15,7 @@ use Rattle.term_heap.specs.declared.cells.Cell.TheVariants.{Free}
 use Rattle.term_heap.specs.Changes.{Change, Grows, size_of, value_of, places, IsMade}
 use Rattle.term_heap.specs.Loads.{from_base}
 use Rattle.unify_core.specs.Heads as heads
-use Rattle.engine_state.specs.Engines.{Task, Runs, Leaves, Pending, item_of, frame_with, call_with}
+use Rattle.engine_state.specs.Engines.{Task, Leaves, Pending, item_of, frame_with, call_with}
 use Rattle.engine_state.specs.MoveLaws.{entered_tasks, ClausesEnter}
 use Rattle.engine_state.proofs.FrameLaws.{fresh_same, value_past}
 

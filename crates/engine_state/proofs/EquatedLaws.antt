@@ -1,13 +1,11 @@
 -- What a built-in equates may be made equal by any most general values.
-use Rattle.std.proofs.Common.{◌≡◌, ◌≤◌, ℕ, zero, suc, ◌+◌, Bool, true, false, not, List, [], ◌∷◌, map, refl, sym, ap, ◌∙◌, subst, arith}
-use Rattle.std.specs.Prelude.{slice_index_or, ℤ, int_lt, int_le, Ok, Err, Option}
+use Rattle.std.proofs.Common.{◌≡◌, ℕ, zero, suc, Bool, true, false, List, [], ◌∷◌, map, refl, sym, ap, ◌∙◌, subst}
+use Rattle.std.specs.Prelude.{slice_index_or, ℤ, Ok, Err, Option}
 use Rattle.term_core.specs.declared.fixed.TheConstants.{NIL}
 use Rattle.term_core.specs.declared.terms.Term.{Term, Var, Atom, Int}
 use Rattle.term_core.specs.declared.equations.Equation.{Equation}
-use Rattle.term_core.specs.declared.equations.Binding.{Binding}
-use Rattle.term_core.specs.declared.equations.Outcome.TheVariants.{Solved}
 use Rattle.term_core.specs.Terms.{instance, instance_step}
-use Rattle.term_core.specs.Unify.{Unified, values}
+use Rattle.term_core.specs.Unify.{values}
 use Rattle.term_core.specs.Variants.{AreVariants, IsMostGeneral}
 use Rattle.term_core.proofs.TermFolds.{fold-Int, fold-Atom}
 use Rattle.term_core.proofs.TermLaws.{instance-Var, instance-instance, map_map}
@@ -24,7 +22,7 @@ use Rattle.prog_data.specs.declared.programs.Program.{Program}
 use Rattle.prog_data.specs.Arithmetic.{Number, value}
 use Rattle.prog_data.specs.Goals.{goal_instance}
 use Rattle.prog_data.proofs.GoalInstances.{goal_instance-instance, at_builtin}
-use Rattle.machine_model.specs.State.{Item, Does, Frame, Choice, Current, Doing, State, item_instance, frame_instance}
+use Rattle.machine_model.specs.State.{Item, Does, Frame, Choice, Doing, State, item_instance, frame_instance}
 use Rattle.machine_model.specs.Step.{Effect, Equates, effect, truth, with_value, compare}
 use Rattle.machine_model.specs.Leaner.{Kind, Older, whole, newer, HeightsAgree, at, MarksAgree, no_mark, a_mark, Renaming, GoalsAgree, TermsAgree, ItemsAgree, does, cuts, exits, idle, FramesAgree, frames, ChoicesAgree, CurrentsAgree, doing, IsLeaner, leaner}
 use Rattle.machine_model.specs.Leaner as rel

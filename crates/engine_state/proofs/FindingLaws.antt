@@ -3,7 +3,7 @@ use Rattle.std.proofs.Common.{◌≡◌, ◌≤◌, ◌<◌, ◌+◌, ◌-◌, �
 use Rattle.std.proofs.lemmas.List.{append-nil, take_all, take_more, take-append-drop}
 use Rattle.prog_data.specs.declared.events.Ending.{Ending}
 use Rattle.machine_model.specs.Step.{Finding, finding}
-use Rattle.engine_state.specs.Tested.{Tested, untested, HasTested, tested_on, tested_then, found}
+use Rattle.engine_state.specs.Tested.{untested, HasTested, tested_on, tested_then, found}
 use Rattle.engine_state.specs.Findings.{IsAdded, HasAdded}
 use Rattle.engine_state.proofs.TestedLaws.{tests_join}
 

@@ -1,13 +1,13 @@
 -- Failure that went back to the newest choice.
-use Rattle.std.proofs.Common.{◌≡◌, ◌<◌, ◌≤◌, ◌-◌, ℕ, zero, suc, List, [], ◌∷◌, ◌++◌, map, reverse, length, refl, sym, ap, subst, ◌∙◌, arith}
+use Rattle.std.proofs.Common.{◌≡◌, ◌<◌, ◌≤◌, ◌-◌, ℕ, zero, suc, List, [], ◌∷◌, ◌++◌, map, reverse, length, refl, sym, ap, subst, arith}
 use Rattle.std.specs.Prelude.{⊤}
 use Rattle.prog_data.specs.declared.programs.Program.{Program}
-use Rattle.machine_model.specs.State.{Call, Choice, Try, Failed, State, Going, Over}
+use Rattle.machine_model.specs.State.{Call, Try, Failed, State, Going, Over}
 use Rattle.machine_model.specs.Tests.{every_condition}
 use Rattle.machine_model.specs.Step.{failure_step, quietly}
 use Rattle.machine_model.specs.Leaner.{IsLeaner}
 use Rattle.machine_model.specs.LeanerLaws.{AreBelow, before_try, LeanerStatesAreFound, LeanerTellsTheSame}
-use Rattle.term_heap.specs.Changes.{Change, size_of, value_of, places, undone, IsMade}
+use Rattle.term_heap.specs.Changes.{size_of, value_of, places, IsMade}
 use Rattle.term_heap.proofs.HistoryLaws.{undone_here}
 use Rattle.engine_state.specs.declared.engine.Engine as code
 use Rattle.engine_state.specs.declared.points.Pending as code_pending
@@ -15,7 +15,7 @@ use Rattle.engine_state.specs.declared.points.Alternative as code_alternative
 use Rattle.engine_state.specs.declared.points.Alternative.TheVariants as alternative
 use Rattle.engine_state.specs.declared.stages.Stage.TheVariants as stage
 use Rattle.prog_data.specs.declared.events.Ending.TheVariants as ending
-use Rattle.engine_state.specs.Engines.{Link, Alternative, ChoicePoint, call_with, alternative_choices, choices_of, as_state}
+use Rattle.engine_state.specs.Engines.{Link, Alternative, ChoicePoint, call_with, alternative_choices, as_state}
 use Rattle.engine_state.specs.Views.{as_alternative, as_pending, as_links, as_points}
 use Rattle.engine_state.specs.Stacks.{width}
 use Rattle.engine_state.specs.Moments.{IsAlternativePlaced, IsMoment}

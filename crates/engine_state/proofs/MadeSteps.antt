@@ -1,11 +1,10 @@
 -- What the semantics does with a goal, a call, an exit and a failure.
-use Rattle.std.proofs.Common.{◌≡◌, ◌≤◌, ◌<◌, ℕ, zero, suc, ◌+◌, Bool, true, false, not, List, [], ◌∷◌, ◌++◌, length, Option, Some, None, refl, sym, ap, ◌∙◌, subst}
-use Rattle.std.specs.Prelude.{if◌then◌else◌, nat_le, slice_get}
+use Rattle.std.proofs.Common.{◌≡◌, ℕ, zero, suc, ◌+◌, Bool, true, false, List, [], ◌∷◌, Option, Some, None, refl, sym, ap, ◌∙◌, subst}
+use Rattle.std.specs.Prelude.{if◌then◌else◌, nat_le}
 use Rattle.std.proofs.lemmas.Bool.{le-leb, lt-leb}
 use Rattle.term_core.specs.declared.terms.Term.{Term}
 use Rattle.term_core.specs.declared.equations.Outcome.{Outcome}
 use Rattle.term_core.specs.declared.equations.Outcome.TheVariants.{Solved, Clash, Cyclic}
-use Rattle.term_core.specs.Terms.{numbered}
 use Rattle.term_core.specs.Unify.{Stage, Open, Ended, Unified, solve, solves}
 use Rattle.prog_data.specs.declared.goals.Builtin.{Builtin}
 use Rattle.prog_data.specs.declared.goals.Goal.{Goal, out-Goal}
@@ -16,18 +15,16 @@ use Rattle.prog_data.specs.declared.goals.Goal.TheVariants.{outs-True, outs-Fail
 use Rattle.prog_data.specs.declared.programs.Clause.{Clause}
 use Rattle.prog_data.specs.declared.programs.Place.{Place}
 use Rattle.prog_data.specs.declared.programs.Program.{Program}
-use Rattle.prog_data.specs.declared.events.ArithKind.{ArithKind}
 use Rattle.prog_data.specs.declared.events.Ending.TheVariants as ending
-use Rattle.prog_data.specs.declared.events.Event.TheVariants.{Out, Answer}
 use Rattle.prog_data.specs.Goals.{pred_of}
-use Rattle.machine_model.specs.State.{Item, Does, CutTo, Exits, Frame, Call, Choice, Resume, Try, Mark, Doing, Solving, Failed, State, Phase, Going, Over, Trace, cut, exit_mark}
+use Rattle.machine_model.specs.State.{Exits, Frame, Call, Choice, Mark, Solving, State, Going, Over, Trace, exit_mark}
 use Rattle.machine_model.specs.Tests.{Tests}
-use Rattle.machine_model.specs.Step.{step, frame_step, goal_step, builtin_step, call_step, call_made, try_step, quietly, telling, going, after_tests, Effect, Succeeds, Fails, Writes, Equates, Becomes, Faults, frame_of, mark_of, mark_conds, mark_exited, entered}
+use Rattle.machine_model.specs.Step.{step, frame_step, goal_step, builtin_step, call_made, try_step, quietly, after_tests, Effect, Succeeds, Fails, Writes, Equates, Becomes, Faults, frame_of, mark_of, mark_conds, mark_exited, entered}
 use Rattle.machine_model.specs.Leaner.{clause_at}
 use Rattle.machine_model.specs.LeanerLaws.{before_goal, before_try, head_equations}
-use Rattle.engine_state.specs.Tested.{Tested, HasTested, tested_trace, tested_then}
+use Rattle.engine_state.specs.Tested.{tested_trace, tested_then}
 use Rattle.engine_state.specs.Moves.{Makes}
-use Rattle.engine_state.specs.StepsMade.{doing, failing, solved_phase, equation, effect_of, found_at_call, found_at_exit, found_at_mark, found_at_failure, looks_at, after_calls_tests, GoalsMake, BuiltinsMake, CallsMake, ExitsMake, FailuresMake}
+use Rattle.engine_state.specs.StepsMade.{doing, failing, solved_phase, equation, effect_of, found_at_mark, after_calls_tests, GoalsMake, BuiltinsMake, CallsMake, ExitsMake, FailuresMake}
 use Rattle.engine_state.proofs.TestedLaws.{traces_joined}
 use Rattle.engine_state.proofs.Composing.{one_step, quiet_step}
 

@@ -1,17 +1,16 @@
 -- Choice points that are made, and the newest one that failure goes back to.
-use Rattle.std.proofs.Common.{◌≡◌, ◌≤◌, ◌<◌, ℕ, zero, suc, ◌+◌, Bool, true, false, List, [], ◌∷◌, ◌++◌, map, filter, length, refl, sym, ap, ◌∙◌, subst, arith}
+use Rattle.std.proofs.Common.{◌≡◌, ◌≤◌, ℕ, suc, Bool, true, false, List, [], ◌∷◌, ◌++◌, map, filter, length, refl, sym, ap, ◌∙◌, subst, arith}
 use Rattle.std.specs.Prelude.{if◌then◌else◌, cond}
 use Rattle.term_core.specs.declared.terms.Term.{Term}
 use Rattle.prog_data.specs.declared.programs.Clause.{Clause}
 use Rattle.prog_data.specs.declared.programs.Program.{Program}
 use Rattle.prog_data.specs.Programs.{IsProgram}
-use Rattle.machine_model.specs.State.{Call, Choice, Resume, Try, Mark, State}
+use Rattle.machine_model.specs.State.{Call, Choice, Resume, Try, State}
 use Rattle.machine_model.specs.Step.{with_mark, mark_height}
 use Rattle.machine_model.specs.Leaner.{IsLeaner}
 use Rattle.machine_model.specs.LeanerLaws.{LeanerStatesAreFound, AreBelow, call_above, chosen}
-use Rattle.term_heap.specs.Changes.{Change, size_of, value_of, places, undone, IsMade}
+use Rattle.term_heap.specs.Changes.{Change, size_of, value_of, places, IsMade}
 use Rattle.engine_state.specs.Engines.{Task, Link, chain, Alternative, Resumes, Retries, Marks, ChoicePoint, Pending, frame_with, call_with, alternative_choices, point_choices, choices_of, AreInOrder, rest_of, AreHeld}
-use Rattle.engine_state.specs.Stacks.{IsTaken}
 use Rattle.engine_state.specs.StepsMade.{failing}
 use Rattle.engine_state.specs.PointMoves.{PointsPushed, IsBack, GoesBack}
 use Rattle.engine_state.proofs.ChoiceLaws.{now_choices, clauses_tried, pushed_choices, back_choices}

@@ -1,5 +1,5 @@
 -- Moves by any most general values.
-use Rattle.std.proofs.Common.{◌≡◌, ℕ, ◌+◌, List, [], ◌∷◌, Some, refl, sym, ap, ◌∙◌, subst}
+use Rattle.std.proofs.Common.{ℕ, List, []}
 use Rattle.term_core.specs.declared.terms.Term.{Term}
 use Rattle.term_core.specs.declared.equations.Equation.{Equation}
 use Rattle.term_core.specs.declared.equations.Binding.{Binding}
@@ -7,21 +7,15 @@ use Rattle.term_core.specs.declared.equations.Outcome.{Outcome}
 use Rattle.term_core.specs.declared.equations.Outcome.TheVariants.{Solved, Clash, Cyclic}
 use Rattle.term_core.specs.Unify.{Unified, values}
 use Rattle.term_core.specs.Solutions.{Solves, IsRight, HasOneOutcome}
-use Rattle.term_core.specs.Variants.{IsMostGeneral}
-use Rattle.prog_data.specs.declared.goals.Builtin.{Builtin}
-use Rattle.prog_data.specs.declared.goals.Goal.{Goal}
-use Rattle.prog_data.specs.declared.goals.Goal as goal
-use Rattle.prog_data.specs.declared.programs.Clause.{Clause}
-use Rattle.prog_data.specs.declared.programs.Place.{Place}
 use Rattle.prog_data.specs.declared.programs.Program.{Program}
 use Rattle.prog_data.specs.Programs.{IsProgram}
-use Rattle.machine_model.specs.State.{Frame, Call, Choice, State, Going, frame_instance}
+use Rattle.machine_model.specs.State.{State, Going, frame_instance}
 use Rattle.machine_model.specs.Tests.{Tests}
-use Rattle.machine_model.specs.Step.{Equates, quietly}
-use Rattle.machine_model.specs.Leaner.{clause_at, IsLeaner}
+use Rattle.machine_model.specs.Step.{quietly}
+use Rattle.machine_model.specs.Leaner.{IsLeaner}
 use Rattle.machine_model.specs.LeanerLaws.{LeanerTellsTheSame, LeanerStatesAreFound, before_goal, before_try, after_try, head_equations}
-use Rattle.engine_state.specs.Moves.{Makes, Moves}
-use Rattle.engine_state.specs.StepsMade.{doing, equation, effect_of}
+use Rattle.engine_state.specs.Moves.{Moves}
+use Rattle.engine_state.specs.StepsMade.{doing, equation}
 use Rattle.engine_state.specs.MoveLaws.{SolvedHaveBindings, SolvedMove}
 use Rattle.engine_state.proofs.Composing.{made_moves, moves_compose}
 use Rattle.engine_state.proofs.MadeSteps.{builtins_make, failures_make}

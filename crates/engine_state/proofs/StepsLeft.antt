@@ -1,11 +1,10 @@
 -- How many steps of a run are left: the measure of what goes on to its next event.
-use Rattle.std.proofs.Common.{◌≡◌, ◌≤◌, ◌<◌, ℕ, zero, suc, ◌+◌, ◌-◌, List, refl, sym, ap, ◌∙◌, subst, arith}
+use Rattle.std.proofs.Common.{◌≡◌, ◌≤◌, ◌<◌, ℕ, zero, suc, ◌+◌, ◌-◌, refl, ap, subst, arith}
 use Rattle.prog_data.specs.declared.programs.Program.{Program}
 use Rattle.prog_data.specs.declared.events.Ending.{Ending}
 use Rattle.machine_model.specs.State.{State, Phase, Going, Over, Trace}
 use Rattle.machine_model.specs.Tests.{Tests}
 use Rattle.machine_model.specs.Step.{step}
-use Rattle.machine_model.specs.Run.{RunsFrom}
 use Rattle.machine_model.specs.Continues.{at_phase}
 use Rattle.machine_model.specs.LeanerLaws.{TellTheSame}
 use Rattle.machine_model.proofs.Continuing.{all_left}

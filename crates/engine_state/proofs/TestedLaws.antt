@@ -5,7 +5,7 @@ use Rattle.prog_data.specs.declared.events.Event.TheVariants.{Broken}
 use Rattle.prog_data.specs.declared.events.Ending.{Ending}
 use Rattle.prog_data.specs.declared.events.Ending.TheVariants as ending
 use Rattle.machine_model.specs.State.{Over, Trace}
-use Rattle.machine_model.specs.Step.{Finding, Holds, Breaks, Unknown, after_test, after_tests, quietly}
+use Rattle.machine_model.specs.Step.{Finding, Holds, Breaks, Unknown, after_test, after_tests}
 use Rattle.engine_state.specs.Tested.{Tested, untested, unless_ended, tested_trace, HasTested, tested_on, tested_then, found, TestsJoin}
 
 none_more : (n : ℕ) → 0 + n ≡ n

@@ -1,6 +1,6 @@
 -- Frames and choices whose cells are among so many.
-use Rattle.std.proofs.Common.{◌≡◌, ◌≤◌, ◌<◌, ◌⊎◌, inl, inr, ℕ, zero, suc, ◌+◌, Bool, true, false, List, [], ◌∷◌, ◌++◌, map, length, refl, sym, ap, ◌∙◌, arith}
-use Rattle.std.specs.Prelude.{if◌then◌else◌, nat_le, ◌==◌, ◌&&◌}
+use Rattle.std.proofs.Common.{◌≡◌, ◌≤◌, ◌<◌, ◌⊎◌, inl, inr, ℕ, suc, ◌+◌, Bool, true, false, List, [], ◌∷◌, ◌++◌, map, length, refl, sym, ap, ◌∙◌, arith}
+use Rattle.std.specs.Prelude.{if◌then◌else◌, nat_le, ◌==◌}
 use Rattle.std.specs.List.{AllByRecursion, list_all}
 use Rattle.std.proofs.lemmas.Bool.{cases_lt, le-leb, lt-leb, and_parts}
 use Rattle.std.proofs.lemmas.Bool.Decides.{nat_tests}
@@ -12,20 +12,18 @@ use Rattle.term_core.proofs.TermLaws.{instance-Var, instance-Node, instance-itse
 use Rattle.prog_data.specs.declared.goals.Goal.{Goal}
 use Rattle.prog_data.specs.declared.goals.Goal as goal
 use Rattle.prog_data.specs.declared.programs.Program.{Program}
-use Rattle.prog_data.specs.declared.programs.Place.{Place}
 use Rattle.prog_data.specs.Goals.{goal_instance}
 use Rattle.prog_data.specs.Ranges.{is_term_of, is_builtin_of, is_call_of, goal_step, is_goal_of}
 use Rattle.prog_data.proofs.GoalFolds.{ind_goals, fold-Call, fold-Builtin, fold-Conj, fold-Disj, fold-IfElse, fold-Not}
 use Rattle.prog_data.proofs.GoalInstances.{goal_instance-instance, at_true, at_fail, at_cut, at_call, at_builtin, at_conj, at_disj, at_if, at_not, at_exit}
 use Rattle.machine_model.specs.State.{Does, Exits, Call, Choice, Resume, Try, Mark, item_instance, frame_instance}
 use Rattle.machine_model.specs.LeanerLaws.{below, IsFrameBelow, IsCallBelow, AreBelow}
-use Rattle.term_heap.specs.declared.cells.Cell.{Cell}
 use Rattle.term_heap.specs.Changes.{Change, Grows, Binds, size_of, value_of, places, undone, IsMade}
 use Rattle.term_heap.specs.Loads.{from_base}
 use Rattle.term_heap.proofs.PastLaws.{sizes_stay}
 use Rattle.term_heap.proofs.ValueLaws.{grown_below, map_places}
-use Rattle.engine_state.specs.Engines.{Task, Runs, Cuts, Leaves, Link, chain, Alternative, Resumes, Retries, Marks, ChoicePoint, Pending, item_of, frame_with, call_with, alternative_choices, point_choices, choices_of}
-use Rattle.engine_state.specs.Within.{IsTaskWithin, AreTasksWithin, AreLinksWithin, IsAlternativeWithin, IsPointWithin, ArePointsWithin, TasksWithin, VariablesWithin}
+use Rattle.engine_state.specs.Engines.{Task, Runs, Cuts, Leaves, Link, chain, Alternative, Resumes, Retries, Marks, ChoicePoint, item_of, frame_with, call_with, alternative_choices, point_choices, choices_of}
+use Rattle.engine_state.specs.Within.{IsTaskWithin, AreTasksWithin, AreLinksWithin, IsAlternativeWithin, ArePointsWithin, TasksWithin, VariablesWithin}
 use Rattle.engine_state.proofs.BelowLaws.{stands_below}
 
 -- goals

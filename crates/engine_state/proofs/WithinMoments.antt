@@ -18,7 +18,7 @@ use Rattle.engine_state.specs.Engines.{Link, chain}
 use Rattle.engine_state.specs.Views.{as_task, as_link, as_alternative, as_point}
 use Rattle.engine_state.specs.Moments.{IsTaskPlaced, IsAlternativePlaced, ArePlaced, Moments}
 use Rattle.engine_state.specs.MomentsWithin.{MomentsWithin}
-use Rattle.engine_state.specs.Within.{IsTaskWithin, AreTasksWithin, AreLinksWithin, IsAlternativeWithin, IsPointWithin, ArePointsWithin}
+use Rattle.engine_state.specs.Within.{IsTaskWithin, AreTasksWithin, AreLinksWithin, IsAlternativeWithin, IsPointWithin}
 use Rattle.engine_state.proofs.ChoiceLaws.{undone_twice}
 use Rattle.engine_state.proofs.LinkLaws.{chain_older}
 use Rattle.engine_state.proofs.MomentLaws.{undone_length, left_length, moment_now}

@@ -1,6 +1,6 @@
 -- A clause that is tried, and terms that are made equal, over cells.
 -- The headline does not rest on this file.
-use Rattle.std.specs.Prelude.{◌≡◌, ◌≤◌, ◌<◌, ◌+◌, ℕ, List, [], ◌∷◌, length, Some}
+use Rattle.std.specs.Prelude.{◌≡◌, ◌≤◌, ◌<◌, ◌+◌, ℕ, List, length, Some}
 use Rattle.term_core.specs.declared.terms.Term.{Term}
 use Rattle.prog_data.specs.declared.goals.Builtin.{Builtin}
 use Rattle.prog_data.specs.declared.goals.Goal.{Goal}
@@ -10,7 +10,7 @@ use Rattle.prog_data.specs.declared.programs.Place.{Place}
 use Rattle.prog_data.specs.declared.programs.Program.{Program}
 use Rattle.prog_data.specs.declared.events.Ending.TheVariants as ending
 use Rattle.prog_data.specs.Goals.{goal_instance, pred_of, without_exit}
-use Rattle.machine_model.specs.State.{Choice, State, Going, Over}
+use Rattle.machine_model.specs.State.{Choice, Going, Over}
 use Rattle.machine_model.specs.Tests.{Tests}
 use Rattle.machine_model.specs.Step.{Equates, quietly}
 use Rattle.machine_model.specs.Leaner.{clause_at, IsLeaner}

@@ -9,7 +9,7 @@ use Rattle.machine_model.specs.Step.{tries, with_mark, mark_height}
 use Rattle.machine_model.specs.Leaner.{IsLeaner}
 use Rattle.machine_model.specs.LeanerLaws.{call_above, chosen}
 use Rattle.term_heap.specs.Changes.{Change, size_of, value_of, places, undone, IsMade}
-use Rattle.engine_state.specs.Engines.{Task, Link, chain, Alternative, Retries, Marks, ChoicePoint, Pending, frame_with, call_with, alternative_choices, choices_of, AreInOrder, rest_of, AreHeld}
+use Rattle.engine_state.specs.Engines.{Task, Link, chain, Retries, Marks, ChoicePoint, Pending, frame_with, call_with, alternative_choices, choices_of, AreInOrder, rest_of, AreHeld}
 use Rattle.engine_state.specs.Stacks.{IsTaken}
 use Rattle.engine_state.specs.Within.{IsAlternativeWithin, ArePointsWithin}
 use Rattle.engine_state.specs.StepsMade.{failing}

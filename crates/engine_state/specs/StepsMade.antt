@@ -1,6 +1,6 @@
 -- What the semantics does with a goal, a call, an exit and a failure, given the tests that were made.
 -- The headline does not rest on this file.
-use Rattle.std.specs.Prelude.{◌≡◌, ◌≤◌, ◌<◌, ℕ, suc, ◌+◌, Bool, not, List, [], ◌∷◌, map, length, filter, slice_index_or, Option, None, Some}
+use Rattle.std.specs.Prelude.{◌≡◌, ◌≤◌, ◌<◌, ℕ, suc, ◌+◌, Bool, not, List, [], ◌∷◌, length, filter, slice_index_or, Option, None, Some}
 use Rattle.term_core.specs.declared.fixed.TheConstants.{NIL}
 use Rattle.term_core.specs.declared.terms.Term.{Term}
 use Rattle.term_core.specs.declared.terms.Term as term
@@ -20,7 +20,7 @@ use Rattle.prog_data.specs.declared.events.Event.TheVariants.{Out, Answer}
 use Rattle.prog_data.specs.declared.events.Ending.TheVariants as ending
 use Rattle.prog_data.specs.Conditions.{kind_of, calls_hold, pre_holds, post_holds, exit_breaks, failure_breaks}
 use Rattle.prog_data.specs.Goals.{pred_of}
-use Rattle.machine_model.specs.State.{Item, Does, CutTo, Exits, Frame, Call, Choice, Resume, Try, Mark, Doing, Failed, State, Phase, Going, Over, Trace, frame_instance, cut, choice_at, exit_mark}
+use Rattle.machine_model.specs.State.{Does, CutTo, Exits, Frame, Call, Choice, Resume, Mark, Doing, Failed, State, Phase, Going, Over, Trace, frame_instance, cut, exit_mark}
 use Rattle.machine_model.specs.Tests.{Tests, Looks}
 use Rattle.machine_model.specs.Step.{Finding, finding, Effect, Succeeds, Fails, Writes, Equates, Becomes, Faults, effect, frame_of, tries, mark_of, mark_conds, mark_exited, entered, quietly, telling}
 use Rattle.machine_model.specs.Leaner.{clause_at}

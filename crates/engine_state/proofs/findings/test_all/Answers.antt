@@ -1,4 +1,4 @@
-use Rattle.std.proofs.Common.{◌≡◌, ◌+◌, ℕ, Bool, List, None, Some, get_or, sym, ap, subst, arith}
+use Rattle.std.proofs.Common.{◌≡◌, ◌+◌, None, Some, get_or, sym, ap, subst, arith}
 use Rattle.machine_model.specs.Step.{finding}
 use Rattle.engine_state.specs.Tested.{found}
 use Rattle.engine_state.specs.Findings.{IsAdded, HasAdded}

@@ -1,4 +1,3 @@
-use Rattle.std.proofs.Common.{sym, subst}
 use Rattle.engine_state.proofs.EngineLaws.{points_rise, goes_exited}
 use Rattle.engine_state.proofs.engine.Engine.exit_at.Goals as goal
 

@@ -1,4 +1,4 @@
-use Rattle.std.proofs.Common.{◌≡◌, ◌∙◌, sym, length, arith}
+use Rattle.std.proofs.Common.{arith}
 use Rattle.engine_state.proofs.CallLaws.{placed_args, called_bare, called_loaded}
 use Rattle.engine_state.proofs.engine.Engine.load_call.Goals as goal
 
