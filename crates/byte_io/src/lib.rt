@@ -6,6 +6,8 @@ mod history;
 mod host;
 mod memory;
 mod sink;
+#[cfg(test)]
+mod tests;
 
 pub use files::{Files, FilesFault};
 pub use host::{HostFiles, HostSink};

@@ -11,6 +11,8 @@ mod listings;
 mod loading;
 mod queue;
 mod reading;
+#[cfg(test)]
+mod tests;
 mod units;
 
 pub use file_names::base_of;

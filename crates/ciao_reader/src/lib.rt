@@ -10,6 +10,8 @@ mod reading;
 mod scan;
 mod sentences;
 mod steps;
+#[cfg(test)]
+mod tests;
 mod words;
 
 pub use laws::{

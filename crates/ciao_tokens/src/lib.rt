@@ -13,6 +13,8 @@ mod quoted;
 mod quotes;
 mod scanner;
 mod symbols;
+#[cfg(test)]
+mod tests;
 mod words;
 
 pub use kinds::{TextFault, Token, TokenKind};

@@ -2,7 +2,6 @@ mod Answers
 mod AssertionLaws
 mod AssertionSteps
 mod BodyFolds
-mod BodyGoals
 mod BrokenRules
 mod ClauseSteps
 mod Comings
@@ -14,6 +13,7 @@ mod DirectiveSteps
 mod Files
 mod KeyPlaces
 mod Least
+mod LinkBuilt
 mod LinkRange
 mod LinkedPrograms
 mod MainFiles

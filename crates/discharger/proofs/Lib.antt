@@ -12,4 +12,3 @@ mod DescribedSteps
 mod DescribedPoints
 mod Sound
 mod ClosedTables
-mod Rows

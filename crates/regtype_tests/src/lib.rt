@@ -11,5 +11,3 @@ mod lists;
 mod modules;
 #[cfg(test)]
 mod sizes;
-#[cfg(test)]
-mod visible;

@@ -1,4 +1,7 @@
-pub mod Going
-pub mod Running
+pub mod Built
+pub mod Moves
+pub mod Parts
 pub mod Runs
-pub mod Starts
+pub mod Substitutions
+pub mod Testing
+pub mod Views

@@ -1,11 +1,17 @@
 //! The run of a query over a linked program.
 #![tactic(auto)]
 
+mod built;
+mod calls;
+mod conditions;
 mod events;
+mod frames;
+mod instances;
 mod run;
-mod starting;
-mod state;
-mod turning;
+mod shared;
+mod stages;
+mod tries;
+mod unify;
 
-pub use engine_moves::Reading;
+pub use built::is_built;
 pub use run::Run;

@@ -5,6 +5,7 @@ mod InLaws
 mod LeafLists
 mod LeqLaws
 mod Lists
+mod MoreNames
 pub mod NameLoops
 mod Orders
 mod Parts

@@ -1,3 +1,4 @@
+mod AloneLaws
 mod HeadLaws
 mod LeadLaws
 mod MatchLaws
@@ -9,4 +10,6 @@ mod PairLaws
 mod PairSizes
 mod PairSteps
 mod ReduceLaws
+mod SequenceLaws
+mod TestPremises
 mod UnifyLaws

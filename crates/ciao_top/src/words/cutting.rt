@@ -22,16 +22,14 @@ struct GivenOption<'a> {
     value: &'a [u8],
 }
 
-// What one word is by itself. It is asked of no word behind `--`, and of none that is the value of the option before it.
+// What a word is, where no `--` stands before it and no option takes it as its value.
 #[derive(Clone, Copy, Drop)]
 enum WordUse<'a> {
-    // `--`: each word behind it is positional.
     Separator,
-    // The name of an option, `--x`, whose value is the next word.
+    // It takes the next word as its value.
     Name,
-    // An option with its value, `--x=v`.
     Given(GivenOption<'a>),
-    // None of these, but of two bytes or more with `-` first: it is refused.
+    // Another word that begins with `-`, which is refused.
     Dashed,
     Positional,
 }

@@ -1,2 +1,0 @@
-mod GoalBodies
-mod InRange

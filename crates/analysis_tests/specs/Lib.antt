@@ -1,3 +1,0 @@
-pub mod Small
-pub mod Bodies
-pub mod Outlines

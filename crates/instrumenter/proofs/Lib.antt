@@ -1,4 +1,0 @@
-pub mod Checks
-mod Lists
-mod CheckRanges
-mod ProgramRanges

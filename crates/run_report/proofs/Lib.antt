@@ -1,5 +1,0 @@
-mod LibraryNames
-mod Loops
-mod Sets
-mod BuiltinNames
-mod KeptConditions
