@@ -7,9 +7,9 @@ use Rattle.term_core.specs.declared.terms.Term.TheOpen as layer
 use Rattle.term_core.specs.declared.terms.Term.TheVariants.{outs-Node}
 use Rattle.term_core.specs.declared.fixed.TheConstants.{COMMA, PLUS, TIMES, SLASH, TRUE}
 use Rattle.term_core.specs.Shapes.{pair_of}
-use Rattle.term_operands.specs.Operands.{all_said, before_all, joined_said}
+use Rattle.term_core.specs.Operands.{all_said, before_all, joined_said}
 use Rattle.term_core.specs.Terms.{is_atom_of}
-use Rattle.term_operands.proofs.OperandLaws.{conjuncts_alone, chain_alone, none_part, pair_is, no_pair_of}
+use Rattle.term_core.proofs.OperandLaws.{conjuncts_alone, chain_alone, none_part, pair_is, no_pair_of}
 use Rattle.assertion_read.specs.declared.heads.Head.{Head}
 use Rattle.assertion_read.specs.declared.assertions.Written.{Written}
 use Rattle.assertion_read.specs.Heads.{are_distinct_variables, is_field, number_form, by_number_at, head_at}

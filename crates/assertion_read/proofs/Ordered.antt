@@ -8,8 +8,8 @@ use Rattle.term_core.specs.declared.terms.Term.{Term, out-Term}
 use Rattle.term_core.specs.declared.terms.Term as term
 use Rattle.term_core.specs.declared.fixed.TheConstants.{TIMES}
 use Rattle.term_core.specs.Shapes.{pair_of}
-use Rattle.term_operands.specs.Operands.{chain, before_all}
-use Rattle.term_operands.proofs.OperandLaws.{chain_alone, chain_two, pair_is, eqb-eq}
+use Rattle.term_core.specs.Operands.{chain, before_all}
+use Rattle.term_core.proofs.OperandLaws.{chain_alone, chain_two, pair_is, eqb-eq}
 use Rattle.assertion_read.specs.declared.assertions.Written.{Written}
 use Rattle.assertion_read.specs.Properties.{placed_at, all_placed, ordered, said_in_order}
 

@@ -15,8 +15,8 @@ use Rattle.term_core.specs.Shapes.{pair_of, with_mark, atom_at, parts_of}
 use Rattle.term_core.specs.Terms.{is_atom_of}
 use Rattle.term_core.proofs.TermFolds.{fold-Atom, fold-Node, fold-Var, fold-Int, ind_terms}
 use Rattle.ciao_reader.specs.declared.sentences.Sentence.{Sentence}
-use Rattle.term_operands.specs.Operands.{Joined, joined_step, on_both_sides, on_the_left, conjuncts, chain, before_all, all_said, joined_said}
-use Rattle.term_operands.proofs.OperandLaws.{joined_alone, joined_two, whole_is, none_part, some_part, eqb-eq}
+use Rattle.term_core.specs.Operands.{Joined, joined_step, on_both_sides, on_the_left, conjuncts, chain, before_all, all_said, joined_said}
+use Rattle.term_core.proofs.OperandLaws.{joined_alone, joined_two, whole_is, none_part, some_part, eqb-eq}
 use Rattle.assertion_read.specs.declared.heads.Head.{Head}
 use Rattle.assertion_read.specs.declared.assertions.Mark.{Mark}
 use Rattle.assertion_read.specs.declared.assertions.Written.{Written}

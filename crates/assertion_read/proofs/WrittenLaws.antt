@@ -8,7 +8,7 @@ use Rattle.term_core.specs.declared.terms.Term.TheVariants.{outs-Node, rolls-Nod
 use Rattle.term_core.specs.declared.fixed.TheConstants.{PRED, CALLS, SUCCESS, COMP, ENTRY, CHECK, TRUST, TRUE, CHECKED, FALSE, NECK, PLUS, COLON, HASH, IMPLIES}
 use Rattle.ciao_reader.specs.declared.sentences.Sentence.{Sentence}
 use Rattle.term_core.specs.Shapes.{single_of, pair_of, split, with_mark, parts_of}
-use Rattle.term_operands.proofs.OperandLaws.{none_part, some_part, single_is, of_single, no_pair_of, unsplit, split_none, split_some, eqb-eq}
+use Rattle.term_core.proofs.OperandLaws.{none_part, some_part, single_is, of_single, no_pair_of, unsplit, split_none, split_some, eqb-eq}
 use Rattle.assertion_read.specs.declared.heads.Head.{Head}
 use Rattle.assertion_read.specs.declared.reading.Kind.{Kind}
 use Rattle.assertion_read.specs.declared.assertions.Word.{Word}

@@ -16,6 +16,7 @@ pub record Asserted : Type 0 where
   pub word : Word
   pub body : Term
 
+-- the three together
 abbrev pub asserted : Mark → Term → Word → Asserted
 asserted mark body word = record { mark = mark; word = word; body = body }
 
@@ -57,12 +58,14 @@ with_comp head pre (Some post) = record { head = head; pre = pre; post = Some (s
 with_comp head (Some pre) None = record { head = head; pre = Some (split PLUS pre).0; post = None; comp = (split PLUS pre).1 }
 with_comp head None None = record { head = (split PLUS head).0; pre = None; post = None; comp = (split PLUS head).1 }
 
--- the marks are `#` of the comment, `=>`, `:` and `+`
+-- what stands before `:`, the field behind it, and the one behind `=>`
 abbrev pub with_pre : Term × Option Term → Option Term → Fields
 with_pre rest post = with_comp rest.0 rest.1 post
 
+-- what stands before `=>`, and the field behind it
 abbrev pub with_post : Term × Option Term → Fields
 with_post rest = with_pre (split COLON rest.0) rest.1
 
+-- the head and the fields of what stands behind a keyword: the marks are `#` of the comment, `=>`, `:` and `+`
 abbrev pub fields_of : Term → Fields
 fields_of t = with_post (split IMPLIES (split HASH t).0)

@@ -5,7 +5,7 @@ use Rattle.term_core.specs.declared.terms.Term.{Term, out-Term}
 use Rattle.term_core.specs.declared.terms.Term.TheOpen.{Term-F, Atom, Node}
 use Rattle.term_core.specs.declared.fixed.TheConstants.{TIMES, LIST, TRUE}
 use Rattle.term_core.specs.Shapes.{atom_at}
-use Rattle.term_operands.specs.Operands.{chain, before_all, joined_said}
+use Rattle.term_core.specs.Operands.{chain, before_all, joined_said}
 use Rattle.term_core.specs.Terms.{is_atom_of}
 use Rattle.assertion_read.specs.declared.heads.Head.{Head}
 use Rattle.assertion_read.specs.declared.assertions.Written.{Written}

@@ -63,6 +63,7 @@ of_fields kind f =
     if may_have kind.word (is_there f.pre) (is_there f.post) (is_there f.comp)
     then about_head kind (parts_of (out-Term f.head)) f.pre f.post f.comp (head_at (out-Term f.head)) else None
 
+-- the assertion of a keyword and what stands behind it, in this line
 abbrev pub of_asserted : ℕ → Option Asserted → Option Assertion
 of_asserted line None = None
 of_asserted line (Some a) = of_fields (kind_of a.mark a.word line) (fields_of a.body)

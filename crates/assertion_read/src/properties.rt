@@ -3,7 +3,7 @@ ghost use Rattle.std.specs.Prelude.{◌≡◌, ◌+◌, suc, List, Option, Some,
 ghost use Rattle.term_core.specs.declared.terms.Term.{out-Term};
 ghost use Rattle.term_core.specs.declared.fixed.TheConstants.{TIMES, TRUE};
 ghost use Rattle.term_core.specs.Terms.{is_atom_of};
-ghost use Rattle.term_operands.specs.Operands.{joined_said};
+ghost use Rattle.term_core.specs.Operands.{joined_said};
 ghost use Rattle.assertion_read.specs.Heads.{argument_of};
 ghost use Rattle.assertion_read.specs.Properties.{plain, listed, property_at, placed_at, said_of_variables, said_in_order, said, computation_said};
 ghost use Rattle.assertion_read.specs.Readings.{pre_said, post_said, comp_said};

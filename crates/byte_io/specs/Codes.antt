@@ -6,18 +6,22 @@ use Rattle.byte_io.specs.Outside.{FileRead}
 use Rattle.byte_io.specs.declared.files.FilesFault.{FilesFault}
 use Rattle.byte_io.specs.declared.files.FilesFault.TheVariants.{Failed, NoMemory}
 
+-- a fault as a truth value: there is one fault
 abbrev is_failed : FilesFault → Bool
 is_failed Failed = true
 is_failed NoMemory = false
 
+-- the fault of a truth value
 abbrev fault_at : Bool → FilesFault
 fault_at true = Failed
 fault_at false = NoMemory
 
+-- a fault is found again by its truth value
 pub fault_at-is_failed : (fault : FilesFault) → fault_at (is_failed fault) ≡ fault
 fault_at-is_failed Failed = refl
 fault_at-is_failed NoMemory = refl
 
+-- the code of faults, by their truth values
 abbrev fault_code : Coded FilesFault
 fault_code = code_by Bool coded_bool is_failed fault_at fault_at-is_failed
 

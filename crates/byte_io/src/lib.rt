@@ -6,8 +6,6 @@ mod history;
 mod host;
 mod memory;
 mod sink;
-#[cfg(test)]
-mod tests;
 
 pub use files::{Files, FilesFault};
 pub use host::{HostFiles, HostSink};

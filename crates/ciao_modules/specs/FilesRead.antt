@@ -73,6 +73,7 @@ made_unit used file source o = record {
   ops = source.ops;
 }
 
+-- what is wrong with the draft of a module, or its unit and the queue behind it
 abbrev pub file_with : Module → ℕ → Source → Drafted → FileOutcome
 file_with used file source (draft.Wrong wrong) = read.Wrong wrong
 file_with used file source (draft.Opened o) = read.Loaded (record { unit = made_unit used file source o; queue = o.draft.queue })

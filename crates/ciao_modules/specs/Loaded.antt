@@ -45,6 +45,7 @@ module_file names (module_of.Library library) = library_file library
 abbrev pub names_before : List Word → Module → List Word
 names_before names used = with_text names (module_file names used)
 
+-- the number of a module's file among the names that have it
 abbrev pub file_number : List Word → Module → ℕ
 file_number names used = place_of (module_file names used) names
 
@@ -121,6 +122,7 @@ pub record Progress : Type 0 where
 abbrev pub start_names : List Word → Word → List Word
 start_names before base = with_text (with_text before base) (file_of base)
 
+-- the queue of a load at first: the main file alone, on line 0
 abbrev pub start_queue : List Word → Word → List Member
 start_queue before base = record {
   used = module_of.File (place_of base before);

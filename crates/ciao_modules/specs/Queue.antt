@@ -16,6 +16,7 @@ same_library BasicProps BasicProps = true
 same_library Write Write = true
 same_library left right = false
 
+-- whether two modules are the same: files of one name, or one library
 abbrev pub same_module : Module → Module → Bool
 same_module (module_of.File name) (module_of.File other) = name == other
 same_module (module_of.Library library) (module_of.Library other) = same_library library other

@@ -94,6 +94,7 @@ abbrev pub IsModuleInRange : ℕ → Module → Type 0
 IsModuleInRange names (module_of.File name) = name < names
 IsModuleInRange names (module_of.Library library) = ⊤
 
+-- a member of a queue whose module and place name what is below a number
 pub record IsMemberInRange (names : ℕ) (member : Member) : Type 0 where
   pub used : IsModuleInRange names member.used
   pub place : member.place.file < names

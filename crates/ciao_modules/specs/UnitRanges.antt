@@ -20,6 +20,7 @@ exports_of (Listed exports) = exports
 abbrev pub IsExportInRange : ℕ → Export → Type 0
 IsExportInRange names export = export.name < names
 
+-- the name of each export is below a number
 abbrev pub AreExportsInRange : ℕ → List Export → Type 0
 AreExportsInRange names exports = AllByRecursion (IsExportInRange names) exports
 

@@ -11,8 +11,6 @@ mod listings;
 mod loading;
 mod queue;
 mod reading;
-#[cfg(test)]
-mod tests;
 mod units;
 
 pub use file_names::base_of;

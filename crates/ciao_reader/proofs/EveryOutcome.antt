@@ -5,11 +5,12 @@ use Rattle.std.specs.List.{list_any}
 use Rattle.std.proofs.lemmas.Bool.{cases_lt}
 use Rattle.term_core.specs.declared.terms.Term.{Term}
 use Rattle.term_core.specs.declared.operators.Operators.{Operators}
+use Rattle.term_core.specs.Operators.{greatest_priority}
 use Rattle.ciao_tokens.specs.declared.kinds.Token.{Token}
 use Rattle.ciao_reader.specs.Roles.{variable_count}
 use Rattle.ciao_reader.specs.Readings.{Reads, depth}
 use Rattle.ciao_reader.specs.Changes.{table_after}
-use Rattle.ciao_reader.specs.Sentences.{is_end, Splits, IsAlone, line_of, depth_limit, greatest_priority, beyond, IsSentence, ReadsAll, none, next, IsGoal}
+use Rattle.ciao_reader.specs.Sentences.{is_end, Splits, IsAlone, line_of, depth_limit, beyond, IsSentence, ReadsAll, none, next, IsGoal}
 use Rattle.ciao_reader.specs.Faults.{IsDeep, IsBeyond, IsWrong, Fails, FirstFault, FailsAsGoal}
 use Rattle.ciao_reader.specs.declared.sentences.Sentence.{Sentence}
 use Rattle.ciao_reader.specs.declared.sentences.ReadFault.{ReadFault}

@@ -4,7 +4,7 @@ use Rattle.std.specs.Prelude.{◌&&◌, nat_le, Option, Some, None, if◌then◌
 use Rattle.term_core.specs.declared.operators.Op.{Op}
 use Rattle.term_core.specs.declared.operators.Operators.{Operators}
 use Rattle.term_core.specs.declared.terms.Term.{Term}
-use Rattle.term_core.specs.Operators.{prefix_of, left_limit, right_limit}
+use Rattle.term_core.specs.Operators.{greatest_priority, prefix_of, left_limit, right_limit}
 use Rattle.term_core.specs.Standard.{IsMade}
 use Rattle.term_core.proofs.OperatorTables.{made_one_root}
 use Rattle.ciao_reader.specs.declared.words.Word.{Word}
@@ -13,7 +13,6 @@ use Rattle.ciao_reader.specs.declared.parts.Part.{Part}
 use Rattle.ciao_reader.specs.declared.frames.Frame.{Frame}
 use Rattle.ciao_reader.specs.declared.frames.Frame.TheVariants.{Before, Between, Paren, Curly, Call, Listed, Tail}
 use Rattle.ciao_reader.specs.Derivations.{Tree, Derives}
-use Rattle.ciao_reader.specs.Sentences.{greatest_priority}
 use Rattle.ciao_reader.specs.Parts.{part_of, node_part, IsPartOf}
 use Rattle.ciao_reader.specs.Steps.{Now, need, have, done, stuck, number_next, call_next, prefix_next, no_item, no_brace, after_need, at_end, in_paren, in_curly, called, in_call, in_list, in_tail, given, operator_next, grown, next}
 use Rattle.ciao_reader.proofs.Climbing as machine

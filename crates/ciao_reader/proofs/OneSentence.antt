@@ -8,13 +8,14 @@ use Rattle.term_core.specs.Standard.{IsMade}
 use Rattle.ciao_tokens.specs.declared.kinds.Token.{Token}
 use Rattle.ciao_reader.specs.Readings.{Reads, term_of, depth}
 use Rattle.ciao_reader.specs.Changes.{table_after}
-use Rattle.ciao_reader.specs.Sentences.{is_end, Splits, IsAlone, depth_limit, greatest_priority, IsSentence}
+use Rattle.ciao_reader.specs.Sentences.{is_end, Splits, IsAlone, depth_limit, IsSentence}
 use Rattle.ciao_reader.specs.Faults.{HasNone, IsDeep, IsBeyond, IsRefused, IsWrong}
 use Rattle.ciao_reader.specs.declared.sentences.Sentence.{Sentence}
 use Rattle.ciao_reader.specs.declared.sentences.ReadFault.{ReadFault}
 use Rattle.ciao_reader.specs.declared.sentences.ReadFault.TheVariants.{IntRange, Syntax, TooDeep, OpRefused}
 use Rattle.ciao_reader.proofs.OneTree.{one_tree}
 use Rattle.term_core.proofs.OperatorTables.{made_one_root}
+use Rattle.term_core.specs.Operators.{greatest_priority}
 
 -- tokens have one first end
 

@@ -9,6 +9,7 @@ use Rattle.term_core.specs.Terms.{instance, with_all_new}
 use Rattle.term_core.specs.declared.terms.Term.{Term}
 use Rattle.term_core.specs.declared.terms.Term as term
 use Rattle.term_core.specs.declared.operators.Operators.{Operators}
+use Rattle.term_core.specs.Operators.{greatest_priority}
 use Rattle.ciao_tokens.specs.Pieces.{Piece, Cut}
 use Rattle.ciao_tokens.specs.Tokens as tokens
 use Rattle.ciao_tokens.specs.Tokens.{names_with, has_mark, without_mark, start_of, tokens_from, HasTokens}
@@ -19,7 +20,7 @@ use Rattle.ciao_reader.specs.declared.words.Word.{Word}
 use Rattle.ciao_reader.specs.Derivations.{Tree, words, fits}
 use Rattle.ciao_reader.specs.Readings.{term_of, Reads}
 use Rattle.ciao_reader.specs.Roles.{roles, variable_count}
-use Rattle.ciao_reader.specs.Sentences.{is_large, is_sign, large_line, line_of, beyond, greatest_priority}
+use Rattle.ciao_reader.specs.Sentences.{is_large, is_sign, large_line, line_of, beyond}
 use Rattle.ciao_reader.specs.ReadingBack.{AreNames, is_readable, numbered_from_zero, IsShallow, IsReadAs, ReadsBack}
 use Rattle.ciao_reader.proofs.Numbering.{numbers_in, same_numbers}
 use Rattle.ciao_reader.proofs.PrintedNames.{each_there}

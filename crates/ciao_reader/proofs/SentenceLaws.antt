@@ -5,12 +5,13 @@ use Rattle.std.proofs.lemmas.Bool.{leb-true, leb-false}
 use Rattle.term_core.specs.declared.fixed.TheConstants as fixed
 use Rattle.term_core.specs.declared.terms.Term as term
 use Rattle.term_core.specs.declared.operators.Operators.{Operators}
+use Rattle.term_core.specs.Operators.{greatest_priority}
 use Rattle.ciao_tokens.specs.declared.kinds.Token.{Token}
 use Rattle.ciao_reader.specs.declared.parts.Part.{Part}
 use Rattle.ciao_reader.specs.Roles.{roles, variable_count}
 use Rattle.ciao_reader.specs.Derivations.{Tree, Derives}
 use Rattle.ciao_reader.specs.Readings.{term_of, depth}
-use Rattle.ciao_reader.specs.Sentences.{depth_limit, greatest_priority, line_of, beyond, IsSentence}
+use Rattle.ciao_reader.specs.Sentences.{depth_limit, line_of, beyond, IsSentence}
 use Rattle.ciao_reader.specs.Faults.{HasNone, IsDeep, IsBeyond}
 use Rattle.ciao_reader.specs.Parts.{part_of, IsPartOf}
 

@@ -4,10 +4,11 @@ use Rattle.std.specs.Prelude.{◌≡◌, ℕ, zero, suc, List, [], ◌∷◌, �
 use Rattle.term_core.specs.Terms.{vars}
 use Rattle.term_core.specs.declared.operators.Operators.{Operators}
 use Rattle.term_core.specs.Standard.{IsMade}
+use Rattle.term_core.specs.Operators.{greatest_priority}
 use Rattle.ciao_tokens.specs.declared.kinds.Token.{Token}
 use Rattle.ciao_reader.specs.declared.words.Word.{Word}
 use Rattle.ciao_reader.specs.Derivations.{Tree, Derives}
-use Rattle.ciao_reader.specs.Sentences.{greatest_priority, IsSentence, HasSentences, HasGoal}
+use Rattle.ciao_reader.specs.Sentences.{IsSentence, HasSentences, HasGoal}
 use Rattle.ciao_reader.specs.Faults.{IsUnread, IsNoGoal}
 use Rattle.ciao_reader.specs.declared.sentences.Sentence.{Sentence}
 use Rattle.ciao_reader.specs.declared.sentences.Source.{Source}

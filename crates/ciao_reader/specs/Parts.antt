@@ -5,10 +5,11 @@ use Rattle.term_core.specs.declared.fixed.TheConstants as fixed
 use Rattle.term_core.specs.declared.terms.Term.{Term}
 use Rattle.term_core.specs.declared.terms.Term as term
 use Rattle.term_core.specs.declared.operators.Operators.{Operators}
+use Rattle.term_core.specs.Operators.{greatest_priority}
 use Rattle.ciao_reader.specs.declared.words.Word.{Word}
 use Rattle.ciao_reader.specs.Derivations.{Tree, Derives}
 use Rattle.ciao_reader.specs.Readings.{term_of, depth}
-use Rattle.ciao_reader.specs.Sentences.{depth_limit, greatest_priority}
+use Rattle.ciao_reader.specs.Sentences.{depth_limit}
 use Rattle.ciao_reader.specs.declared.parts.Part.{Part}
 
 -- a term of this depth, or none where it is too deep
@@ -19,6 +20,7 @@ capped deep t = if nat_le deep depth_limit then record { term = t; depth = deep 
 abbrev pub part_of : Tree → Part
 part_of t = capped (depth t) (term_of t)
 
+-- a variable, a number or an atom
 abbrev pub leaf : Term → Part
 leaf t = record { term = t; depth = 1 }
 
@@ -26,12 +28,15 @@ leaf t = record { term = t; depth = 1 }
 abbrev pub node_part : ℕ → List Term → ℕ → Part
 node_part name ts deepest = capped (deepest + 1) (term.Node name ts)
 
+-- a compound of one
 abbrev pub prefix_part : ℕ → Part → Part
 prefix_part name p = node_part name (p.term ∷ []) p.depth
 
+-- a compound of two
 abbrev pub infix_part : ℕ → Part → Part → Part
 infix_part name p q = node_part name (p.term ∷ q.term ∷ []) (max p.depth q.depth)
 
+-- one in parentheses, which count for one of its depth
 abbrev pub paren_part : Part → Part
 paren_part p = capped (p.depth + 1) p.term
 

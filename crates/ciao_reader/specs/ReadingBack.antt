@@ -13,10 +13,11 @@ use Rattle.term_core.specs.declared.terms.Term as term
 use Rattle.term_core.specs.declared.terms.Term.TheOpen.{Term-F, Var, Int, Atom, Node}
 use Rattle.term_core.specs.declared.terms.Term.TheFolds.{fold-Term}
 use Rattle.term_core.specs.declared.operators.Operators.{Operators}
+use Rattle.term_core.specs.Operators.{greatest_priority}
 use Rattle.ciao_tokens.specs.declared.kinds.Token.{Token}
 use Rattle.ciao_tokens.specs.Tokens.{HasTokens}
 use Rattle.ciao_reader.specs.Readings.{Reads, depth}
-use Rattle.ciao_reader.specs.Sentences.{depth_limit, greatest_priority, HasGoal}
+use Rattle.ciao_reader.specs.Sentences.{depth_limit, HasGoal}
 use Rattle.ciao_reader.specs.declared.sentences.Sentence.{Sentence}
 
 -- distinct texts that begin with those that the language knows
@@ -30,6 +31,7 @@ abbrev pub has_64_bits : ℤ → Bool
 has_64_bits (pos n) = nat_lt n (2 ^ 63)
 has_64_bits (negsuc n) = nat_lt n (2 ^ 63)
 
+-- the next test at the outermost of a term, by those of its parts
 abbrev pub readable_step : ℕ → Term-F Bool → Bool
 readable_step count (Var v) = nat_lt v (2 ^ 64)
 readable_step count (Int n) = has_64_bits n

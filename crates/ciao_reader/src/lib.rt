@@ -10,8 +10,6 @@ mod reading;
 mod scan;
 mod sentences;
 mod steps;
-#[cfg(test)]
-mod tests;
 mod words;
 
 pub use laws::{

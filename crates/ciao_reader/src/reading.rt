@@ -1,7 +1,7 @@
 // The reading of a sentence's words.
 ghost use Rattle.std.specs.Prelude.{◌≡◌, IfOk, IfSome, IfNone};
+ghost use Rattle.term_core.specs.Operators.{greatest_priority};
 ghost use Rattle.ciao_reader.specs.Derivations.{Tree, Derives};
-ghost use Rattle.ciao_reader.specs.Sentences.{greatest_priority};
 ghost use Rattle.ciao_reader.specs.Parts.{IsPartOf};
 
 use crate::frames::Mode;

@@ -10,8 +10,6 @@ mod devices;
 #[cfg(test)]
 mod limits;
 #[cfg(test)]
-mod printing;
-#[cfg(test)]
 mod properties;
 #[cfg(test)]
 mod reading;

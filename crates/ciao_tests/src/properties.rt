@@ -1,5 +1,5 @@
 // Each basic property on each kind of argument.
-use crate::runs::run_file;
+use crate::runs::status_of;
 use std::alloc::{AllocError, Global};
 use std::test::Fail;
 use std::thread::Threads;
@@ -33,29 +33,62 @@ fn module_with(alloc: Global, property: &str) -> Result<String, AllocError> {
     Ok(text)
 }
 
-// Whether a call with the argument keeps the property: 1 where it is broken.
-fn status_with<R: Threads + Sync>(
+fn query_with(alloc: Global, argument: &str) -> Result<String, AllocError> {
+    let mut query = String::from_str(alloc, "p(")?;
+    query.push_str(argument)?;
+    query.push_str(")")?;
+    Ok(query)
+}
+
+// Whether a call with the argument keeps the property: the status is 1 where it is broken.
+fn is_kept<R: Threads + Sync>(
     rt: &R,
     alloc: Global,
     property: &str,
     argument: &str,
-) -> Result<u8, AllocError> {
-    let mut query = String::from_str(alloc, "p(")?;
-    query.push_str(argument)?;
-    query.push_str(")")?;
+) -> Result<bool, AllocError> {
+    let query = query_with(alloc, argument)?;
     let text = module_with(alloc, property)?;
-    let (_, status) = run_file(rt, alloc, text.as_bytes(), &query, "1")?;
-    Ok(status)
+    Ok(status_of(rt, alloc, &text, &query)? == 0)
+}
+
+// The first argument of which the signs tell something else.
+fn first_other_argument<'a, R: Threads + Sync>(
+    rt: &R,
+    alloc: Global,
+    property: &str,
+    signs: &[u8],
+    arguments: &[&'a str],
+) -> Result<Option<&'a str>, AllocError> {
+    for (argument, sign) in arguments.iter().zip(signs) {
+        if is_kept(rt, alloc, property, argument)? != (*sign == b'+') {
+            return Ok(Some(*argument));
+        }
+    }
+    Ok(None)
+}
+
+// The first property of which the signs tell something else, and the argument.
+fn first_other<'a, R: Threads + Sync>(
+    rt: &R,
+    alloc: Global,
+    rows: &[(&'a str, &str)],
+    arguments: &[&'a str],
+) -> Result<Option<(&'a str, &'a str)>, AllocError> {
+    for row in rows {
+        match first_other_argument(rt, alloc, row.0, row.1.as_bytes(), arguments)? {
+            None => {}
+            Some(argument) => return Ok(Some((row.0, argument))),
+        }
+    }
+    Ok(None)
 }
 
 #[test]
 fn properties_of_arguments(rt: HostRuntime) -> Result<(), Fail> {
-    let alloc = rt.alloc();
-    for (property, holds) in PROPERTIES {
-        for (argument, sign) in ARGUMENTS.iter().zip(holds.as_bytes()) {
-            let status = status_with(&rt, alloc, property, argument)?;
-            assert_eq!(rt; status == 0, *sign == b'+');
-        }
-    }
+    assert_eq!(rt;
+        first_other(&rt, rt.alloc(), &PROPERTIES, &ARGUMENTS)?,
+        None
+    );
     Ok(())
 }

@@ -1,5 +1,5 @@
 // Files by the whole reader: operators, quoted names, faults with their lines, and what is not built yet.
-use crate::runs::{Case, run_file};
+use crate::runs::{Case, first_other, runs_so};
 use std::test::Fail;
 
 const CASES: [Case; 87] = [
@@ -629,26 +629,23 @@ const CASES: [Case; 87] = [
 
 #[test]
 fn files_of_the_language(rt: HostRuntime) -> Result<(), Fail> {
-    let alloc = rt.alloc();
-    for case in &CASES {
-        let (out, status) = run_file(&rt, alloc, case.text.as_bytes(), case.query, case.steps)?;
-        assert_eq!(rt; out.bytes(), case.written.as_bytes());
-        assert_eq!(rt; status, case.status);
-    }
+    assert_eq!(rt; first_other(&rt, rt.alloc(), &CASES)?, None);
     Ok(())
 }
 
 #[test]
 fn bytes_that_are_no_text(rt: HostRuntime) -> Result<(), Fail> {
-    let alloc = rt.alloc();
-    let (out, status) = run_file(
-        &rt,
-        alloc,
-        b":- module(c,[p/1]).\np(a.\n% \xFF\n",
-        "p(X)",
-        "5",
-    )?;
-    assert_eq!(rt; out.bytes(), "fault: c.pl:3 NotUtf8\n".as_bytes());
-    assert_eq!(rt; status, 3);
+    let text = b":- module(c,[p/1]).\np(a.\n% \xFF\n";
+    assert!(rt;
+        runs_so(
+            &rt,
+            rt.alloc(),
+            text,
+            "p(X)",
+            "5",
+            "fault: c.pl:3 NotUtf8\n",
+            3
+        )?
+    );
     Ok(())
 }

@@ -22,7 +22,7 @@ pub(crate) fn words_of(alloc: Global, query: &str, steps: &str) -> Result<Vec<St
 }
 
 // What the tool writes for a file `c.pl`, and its status.
-pub(crate) fn run_file<R: Threads + Sync>(
+fn run_file<R: Threads + Sync>(
     rt: &R,
     alloc: Global,
     text: &[u8],
@@ -37,4 +37,55 @@ pub(crate) fn run_file<R: Threads + Sync>(
     let words = words_of(alloc, query, steps)?;
     let status = run_tool(rt, alloc, &words, &mut files, &mut out);
     Ok((out, status))
+}
+
+// Whether the tool writes this for a file `c.pl`, with this status.
+pub(crate) fn runs_so<R: Threads + Sync>(
+    rt: &R,
+    alloc: Global,
+    text: &[u8],
+    query: &str,
+    steps: &str,
+    written: &str,
+    status: u8,
+) -> Result<bool, AllocError> {
+    let (out, ended) = run_file(rt, alloc, text, query, steps)?;
+    Ok(ended == status && out.bytes() == written.as_bytes())
+}
+
+// The status of the tool for a file `c.pl`, at a bound of one call.
+pub(crate) fn status_of<R: Threads + Sync>(
+    rt: &R,
+    alloc: Global,
+    text: &str,
+    query: &str,
+) -> Result<u8, AllocError> {
+    let (_, status) = run_file(rt, alloc, text.as_bytes(), query, "1")?;
+    Ok(status)
+}
+
+fn case_runs_so<R: Threads + Sync>(rt: &R, alloc: Global, case: &Case) -> Result<bool, AllocError> {
+    runs_so(
+        rt,
+        alloc,
+        case.text.as_bytes(),
+        case.query,
+        case.steps,
+        case.written,
+        case.status,
+    )
+}
+
+// The first case that runs otherwise: its file and its query.
+pub(crate) fn first_other<R: Threads + Sync>(
+    rt: &R,
+    alloc: Global,
+    cases: &[Case],
+) -> Result<Option<(&'static str, &'static str)>, AllocError> {
+    for case in cases {
+        if !case_runs_so(rt, alloc, case)? {
+            return Ok(Some((case.text, case.query)));
+        }
+    }
+    Ok(None)
 }

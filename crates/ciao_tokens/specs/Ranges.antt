@@ -15,6 +15,7 @@ IsNamedBelow n (kind.Quoted a) = a < n
 IsNamedBelow n (kind.Variable a) = a < n
 IsNamedBelow n other = ⊤
 
+-- each of some tokens is
 abbrev pub AreNamedBelow : ℕ → List Token → Type 0
 AreNamedBelow n ts = AllByRecursion (λ t. IsNamedBelow n t.kind) ts
 

@@ -13,8 +13,6 @@ mod quoted;
 mod quotes;
 mod scanner;
 mod symbols;
-#[cfg(test)]
-mod tests;
 mod words;
 
 pub use kinds::{TextFault, Token, TokenKind};

@@ -2,6 +2,7 @@ mod Answers
 mod AssertionLaws
 mod AssertionSteps
 mod BodyFolds
+mod BodyGoals
 mod BrokenRules
 mod ClauseSteps
 mod Comings
@@ -13,7 +14,6 @@ mod DirectiveSteps
 mod Files
 mod KeyPlaces
 mod Least
-mod LinkBuilt
 mod LinkRange
 mod LinkedPrograms
 mod MainFiles

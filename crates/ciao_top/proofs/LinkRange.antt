@@ -39,7 +39,7 @@ use Rattle.ciao_top.specs.SentenceTerms.{goals_of, clause_goals}
 use Rattle.ciao_top.specs.Linked.{keys_of, pred_number, is_defined, call_of, goal_of, body_of, clause_of, is_clause_of, clauses_of, assertions_of, unit_conditions, pred_with, program_of, names_undefined, sentence_line, least, undefined_lines}
 use Rattle.ciao_top.specs.UnitRange.{IsClauseInRange, IsUnitInRange, IsProgramLinked}
 use Rattle.ciao_top.proofs.BodyFolds.{ind_bodies, goals_of_one, goals_of_both}
-use Rattle.ciao_top.proofs.LinkBuilt.{goal_of_one, goal_of_both}
+use Rattle.ciao_top.proofs.BodyGoals.{goal_of_one, goal_of_both}
 use Rattle.ciao_top.proofs.KeyPlaces.{IsKeyInRange, same_arity, number_is_place, defined_place, keys_distinct, keys_in_range, clauses_in_range, assertions_in_range}
 use Rattle.ciao_top.proofs.ConditionPlaces.{at_place, each_place, filter_keeps, IsNotCalls, ArePlaced, IsAmong, numbered, those_named, first_alone, first_on_calls}
 use Rattle.ciao_top.proofs.RangeOfSentences.{parts_in_range, arity_is}

@@ -9,8 +9,10 @@ use Rattle.prog_data.specs.declared.events.Event.TheVariants.{Out, Answer, End, 
 use Rattle.prog_data.specs.declared.events.Ending.{Ending}
 use Rattle.machine_model.specs.Tests.{every_condition}
 use Rattle.machine_model.specs.Continues.{Left, Continues, Leads, EndsBy, IsNext}
-use Rattle.sld_engine.specs.declared.run.Run as engine
-use Rattle.sld_engine.specs.Runs.{left_of, program_of, bound_of, Starts, HasTold}
+use Rattle.engine_moves.specs.declared.readings.Reading.TheVariants.{All}
+use Rattle.engine_moves.specs.Readings.{tests_by}
+use Rattle.sld_engine.specs.declared.state.RunState.{RunState}
+use Rattle.sld_engine.specs.Runs.{left_of, program_of, bound_of, reading_of, Starts, HasTold}
 use Rattle.ciao_top.specs.Words.{Word}
 use Rattle.ciao_top.specs.RunText.{RunText, event_text, ending_text, ending_status}
 use Rattle.ciao_top.specs.Answers.{IsPrefix, Output, with_piece, RunAnswers}
@@ -142,15 +144,15 @@ module _ (program : Program) (bound : ℕ) where
   comes_next o n event None writing old new next is grew = goes_on o n event old new next is grew
   comes_next o n event (Some s) writing old new next is grew = has_ended o n event s writing old new next is grew
 
--- what a run told, of this program
-pub told_at : (program : Program) (old new : engine.Run) (event : Event) → program_of old ≡ program → HasTold old event new
+-- what a run that tests every condition told, of this program
+pub told_at : (program : Program) (old new : RunState) (event : Event) → program_of old ≡ program → reading_of old ≡ All → HasTold old event new
     → IsNextAt program (bound_of old) (left_of old) event (left_of new)
-told_at program old new event same told =
+told_at program old new event same all told =
     subst (λ p. IsNextAt p (bound_of old) (left_of old) event (left_of new)) same
-    (record { before = told.before; after = told.after; was = told.was; is = told.is; made = told.made; next = told.next })
+    (record { before = told.before; after = told.after; was = told.was; is = told.is; made = told.made; next = subst (λ r. IsNext (tests_by (program_of old) r) (program_of old) (bound_of old) told.before event told.made told.after) all told.next })
 
 -- the run of a query from its start
-module _ (program : Program) (query : Term) (bound : ℕ) (run : engine.Run) (starts : Starts program query bound run) where
+module _ (program : Program) (query : Term) (bound : ℕ) (run : RunState) (starts : Starts program query bound All run) where
   to_answers : (text : Word) (status : ℕ) → RunTells program bound (left_of run) text status → RunAnswers program query bound text status
   to_answers text status x =
       let comes = subst (λ p. Comes_of program bound p x.events x.tests x.ending) (same_some x.now starts.whole (left_of run) x.is_now starts.is) x.continues in

@@ -105,6 +105,7 @@ pub record Output : Type 0 where
   pub written : Option Word
   pub taken : Word
 
+-- the two together
 abbrev pub output_of : Option Word → Word → Output
 output_of written taken = record { written = written; taken = taken }
 

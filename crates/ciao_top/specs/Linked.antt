@@ -55,6 +55,7 @@ module _ (keys : List Key) where
   body_step (One t) = call_of t
   body_step (Both first second) = goal.Conj first second
 
+  -- a body as a goal
   abbrev pub goal_of : Body → Goal
   goal_of = fold-Body Goal body_step
 
@@ -76,13 +77,14 @@ module _ (keys : List Key) where
 abbrev pub is_clause_of : Key → ReadClause → Bool
 is_clause_of key c = same_key key (key_of c.head)
 
--- the clauses and the assertions of sentences, in order
+-- the clauses of sentences, in order
 abbrev pub clauses_of : List ReadSentence → List ReadClause
 clauses_of [] = []
 clauses_of (read.Clause c ∷ ss) = c ∷ clauses_of ss
 clauses_of (read.Assertion a ∷ ss) = clauses_of ss
 clauses_of (read.Operators ∷ ss) = clauses_of ss
 
+-- the assertions of sentences, in order
 abbrev pub assertions_of : List ReadSentence → List ReadAssertion
 assertions_of [] = []
 assertions_of (read.Clause c ∷ ss) = assertions_of ss

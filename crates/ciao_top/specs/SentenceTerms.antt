@@ -69,14 +69,16 @@ abbrev pub body_term_step : Body-F Term → Term
 body_term_step (One goal) = goal
 body_term_step (Both first second) = term.Node COMMA (first ∷ second ∷ [])
 
+-- a body as a term
 abbrev pub body_term : Body → Term
 body_term = fold-Body Term body_term_step
 
--- the goals of a body, from the left
+-- the goals of a body, from those of its parts
 abbrev pub goals_step : Body-F (List Term) → List Term
 goals_step (One goal) = goal ∷ []
 goals_step (Both first second) = first ++ second
 
+-- the goals of a body, from the left
 abbrev pub goals_of : Body → List Term
 goals_of = fold-Body (List Term) goals_step
 

@@ -64,6 +64,7 @@ abbrev pub run_with : List Word → List (Option ℕ) → Option RunWords
 run_with (file ∷ query ∷ []) (Some steps ∷ []) = Some (record { file = file; query = query; steps = steps })
 run_with words numbers = None
 
+-- the run that accepted words are
 abbrev pub run_of : AcceptedParts → Option RunWords
 run_of accepted = run_with accepted.words accepted.numbers
 

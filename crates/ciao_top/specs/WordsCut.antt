@@ -15,12 +15,15 @@ pub record WordParts : Type 0 where
   pub positional : List Word
   pub given : List GivenOption
 
+-- nothing so far
 abbrev pub no_parts : WordParts
 no_parts = record { positional = []; given = [] }
 
+-- with these words behind the positional ones
 abbrev pub with_positional : WordParts → List Word → WordParts
 with_positional parts words = record parts { positional = parts.positional ++ words }
 
+-- with this option behind those that are given
 abbrev pub with_option : WordParts → GivenOption → WordParts
 with_option parts option = record parts { given = parts.given ++ option ∷ [] }
 
@@ -45,6 +48,7 @@ abbrev pub behind_equals : Option Word → Option Word
 behind_equals (Some (c ∷ value)) = if c == byte "=" then Some value else None
 behind_equals other = None
 
+-- an option with its value, where there is one, or else the other
 abbrev pub given_or : Word → Option Word → WordUse → WordUse
 given_or name (Some value) other = Given (record { name = name; value = value })
 given_or name None other = other

@@ -19,10 +19,12 @@ pub data FewValues : Type 0 where
   one_value : Word → FewValues
   more_values : FewValues
 
+-- what is found in words: those that stand by themselves, and the values of one option
 pub record FoundWords : Type 0 where
   pub positional : FewWords
   pub value : FewValues
 
+-- before the first word
 abbrev pub nothing_found : FoundWords
 nothing_found = record { positional = no_words; value = no_value }
 
@@ -33,6 +35,7 @@ few_words (a ∷ []) = one_word a
 few_words (a ∷ b ∷ []) = two_words a b
 few_words (a ∷ b ∷ c ∷ words) = more_words
 
+-- a list of values so
 abbrev pub few_values : List Word → FewValues
 few_values [] = no_value
 few_values (a ∷ []) = one_value a
@@ -49,10 +52,12 @@ few_and (one_word a) word = two_words a word
 few_and (two_words a b) word = more_words
 few_and more_words word = more_words
 
+-- and then each of some words
 abbrev pub all_and : FewWords → List Word → FewWords
 all_and few [] = few
 all_and few (word ∷ words) = all_and (few_and few word) words
 
+-- and then a value
 abbrev pub one_more : FewValues → Word → FewValues
 one_more no_value word = one_value word
 one_more (one_value a) word = more_values
@@ -62,6 +67,7 @@ one_more more_values word = more_values
 abbrev pub value_and : Word → FewValues → GivenOption → FewValues
 value_and name value option = if bytes_eq option.name name then one_more value option.value else value
 
+-- what is found, and then an option that is given
 abbrev pub found_with : Word → FoundWords → GivenOption → FoundWords
 found_with name found option = record { positional = found.positional; value = value_and name found.value option }
 
@@ -73,6 +79,7 @@ find_by name (Given option) word words found go_on = go_on None (found_with name
 find_by name Positional word words found go_on = go_on None (record { positional = few_and found.positional word; value = found.value })
 find_by name Dashed word words found go_on = None
 
+-- what is found in words, where an option may be waiting for its value; none where they are not cut
 abbrev pub find_words : List OptionRow → Word → Option Word → FoundWords → List Word → Option FoundWords
 find_words rows name None found [] = Some found
 find_words rows name (Some due) found [] = None

@@ -2,7 +2,6 @@
 ghost use Rattle.std.specs.Prelude.{◌≡◌, ◌≤◌, ℕ, List, true, IfOk, IfErr, IsSome, length};
 ghost use Rattle.byte_io.specs.Outside.{Held, Rose};
 ghost use Rattle.prog_data.specs.Goals.{called_by};
-ghost use Rattle.sld_engine.specs.Built.{is_built};
 ghost use Rattle.ciao_top.specs.Words.{is_main_file, shown};
 ghost use Rattle.ciao_top.specs.UnitSteps.{Faults};
 ghost use Rattle.ciao_top.specs.UnitRange.{IsProgramLinked, IsQueryLinked, ProgramsAreLinked};
@@ -89,7 +88,6 @@ fn link_bytes(alloc: Global, file: &str, bytes: &[u8]) -> Result<Linked, FileFau
     requires { is_main_file file.now ≡ true }
     ensures ok { IfOk result (λ linked. IsLinked file.now bytes.now linked.program linked.ops) }
     ensures linked { IfOk result (λ linked. IsProgramLinked linked.program) }
-    ensures built { IfOk result (λ linked. is_built linked.program ≡ true) }
     ensures err { IfErr result (Faults (FileRefused file.now bytes.now)) }
 {
     if bytes.len() > SIZE_LIMIT {
@@ -104,7 +102,6 @@ fn link_file(alloc: Global, file: &str, bytes: &[u8]) -> Result<Linked, Stop>
     requires { is_main_file file.now ≡ true }
     ensures ok { IfOk result (λ linked. IsLinked file.now bytes.now linked.program linked.ops) }
     ensures linked { IfOk result (λ linked. IsProgramLinked linked.program) }
-    ensures built { IfOk result (λ linked. is_built linked.program ≡ true) }
     ensures err { IfErr result (FileStops (shown file.now) (FileRefused file.now bytes.now)) }
 {
     match link_bytes(alloc, file, bytes) {
@@ -116,12 +113,10 @@ fn link_file(alloc: Global, file: &str, bytes: &[u8]) -> Result<Linked, Stop>
 
 // The program with the query that a text is.
 fn with_query(alloc: Global, linked: Linked, text: &str) -> Result<Prepared, Stop>
-    requires linked { IsProgramLinked linked.program }
-    requires built { is_built linked.program ≡ true }
+    requires { IsProgramLinked linked.program }
     ensures ok { IfOk result (λ prepared. HasQueryOf linked.program linked.ops text.now prepared.program prepared.query) }
     ensures called { IfOk result (λ prepared. IsSome (called_by prepared.program prepared.query)) }
     ensures linked { IfOk result (λ prepared. IsQueryLinked prepared.program prepared.query) }
-    ensures built { IfOk result (λ prepared. is_built prepared.program ≡ true) }
     ensures err { IfErr result (QueryFaults linked.program linked.ops text.now) }
 {
     program_ranges_law(); // for the proof
@@ -150,7 +145,6 @@ pub(crate) fn prepare<F: Files>(
     ensures ok { IfOk result (λ prepared. (held : Held) → Agree (new_reads (F.reads files.old) (F.reads files.new)) held → HasQuery held (run_words command.now) prepared.program prepared.query) }
     ensures called { IfOk result (λ prepared. IsSome (called_by prepared.program prepared.query)) }
     ensures linked { IfOk result (λ prepared. IsQueryLinked prepared.program prepared.query) }
-    ensures built { IfOk result (λ prepared. is_built prepared.program ≡ true) }
     ensures err { IfErr result (Stops (run_words command.now) (new_reads (F.reads files.old) (F.reads files.new)) (Rose (F.faults files.old) (F.faults files.new))) }
     ensures kept { F.held files.new ≡ F.held files.old }
     ensures files { DeviceGoesOn (F.steady files.old) (F.steady files.new) (F.faults files.old) (F.faults files.new) }

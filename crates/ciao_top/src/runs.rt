@@ -2,8 +2,8 @@
 ghost use Rattle.std.specs.Prelude.{◌≡◌, ◌⊎◌, ◌≤◌, ◌^◌, true, IfErr, IfNone, IsSome, OnOk, OnErr, MatchOption};
 ghost use Rattle.byte_io.specs.Outside.{Rose};
 ghost use Rattle.prog_data.specs.Goals.{called_by};
-ghost use Rattle.sld_engine.specs.Built.{is_built};
-ghost use Rattle.sld_engine.specs.Runs.{left_of, program_of, bound_of};
+ghost use Rattle.prog_data.specs.Programs.{IsProgram};
+ghost use Rattle.sld_engine.specs.Runs.{left_of, program_of, bound_of, reading_of};
 ghost use Rattle.ciao_top.specs.RunText.{event_text, ending_status};
 ghost use Rattle.ciao_top.specs.Answers.{RunAnswers, output_of, with_piece};
 ghost use Rattle.ciao_top.specs.InnerAnswers.{DeviceGoesOn, Comes, GrewByFront, HasWritten, event_status, RunTells, GoesOn};
@@ -12,7 +12,7 @@ use crate::prepare::Prepared;
 use crate::texts::event_text;
 use byte_io::{Sink, SinkFault, write_all};
 use prog_data::{Ending, Event, Program};
-use sld_engine::Run;
+use sld_engine::{Reading, Run};
 use std::alloc::Global;
 
 // The status of an ending.
@@ -76,13 +76,15 @@ fn write_next<S: Sink>(
     run: &mut Run<'_>,
     out: &mut S,
 ) -> Option<u8>
-    requires { program_of run.old ≡ program.now }
+    requires program { program_of run.old ≡ program.now }
+    requires reading { reading_of run.old ≡ Reading.All }
     ensures told { MatchOption result
         (HasWritten (RunTells program.now (bound_of run.old) (left_of run.old)) (RunTells program.now (bound_of run.old) (left_of run.new)) (output_of (S.written out.old) (S.taken out.old)) (output_of (S.written out.new) (S.taken out.new)))
         (λ status. Comes (RunTells program.now (bound_of run.old) (left_of run.old)) (Rose (S.faults out.old) (S.faults out.new)) (output_of (S.written out.old) (S.taken out.old)) (output_of (S.written out.new) (S.taken out.new)) status) }
     ensures goes { IfNone result (GoesOn program.now (bound_of run.old) (left_of run.old) (left_of run.new)) }
     ensures sink { DeviceGoesOn (S.steady out.old) (S.steady out.new) (S.faults out.old) (S.faults out.new) }
     ensures program { program_of run.new ≡ program.now }
+    ensures reading { reading_of run.new ≡ Reading.All }
     ensures bound { bound_of run.new ≡ bound_of run.old }
 {
     match run.next() {
@@ -96,7 +98,8 @@ fn write_next<S: Sink>(
 
 // Writes a run to its end.
 fn write_run<S: Sink>(alloc: Global, program: &Program, run: &mut Run<'_>, out: &mut S) -> u8
-    requires { program_of run.old ≡ program.now }
+    requires program { program_of run.old ≡ program.now }
+    requires reading { reading_of run.old ≡ Reading.All }
     ensures comes { Comes (RunTells program.now (bound_of run.old) (left_of run.old)) (Rose (S.faults out.old) (S.faults out.new)) (output_of (S.written out.old) (S.taken out.old)) (output_of (S.written out.new) (S.taken out.new)) result }
     ensures sink { DeviceGoesOn (S.steady out.old) (S.steady out.new) (S.faults out.old) (S.faults out.new) }
 {
@@ -115,14 +118,14 @@ pub(crate) fn write_whole<S: Sink>(
     bound: u64,
     out: &mut S,
 ) -> u8
-    requires built { is_built prepared.now.program ≡ true }
+    requires program { IsProgram prepared.now.program }
     requires called { IsSome (called_by prepared.now.program prepared.now.query) }
     ensures comes { Comes (RunAnswers prepared.now.program prepared.now.query bound) (Rose (S.faults out.old) (S.faults out.new))
         (output_of (S.written out.old) (S.taken out.old)) (output_of (S.written out.new) (S.taken out.new)) result }
     ensures sink { DeviceGoesOn (S.steady out.old) (S.steady out.new) (S.faults out.old) (S.faults out.new) }
 {
     let program = &prepared.program;
-    match Run::new(alloc, program, &prepared.query, bound) {
+    match Run::new(alloc, program, &prepared.query, bound, Reading::All) {
         Err(_) => 9,
         Ok(run) => {
             let mut run = run;

@@ -1,7 +1,7 @@
 -- A grammar rule `Head --> Body` as a clause. A body is translated between two variables: what is to be read, and what is left behind it.
 -- The headline does not rest on this file.
 use Rattle.std.specs.Prelude.{ℕ, Bool, ◌==◌, ◌||◌, nat_le, List, [], ◌∷◌, ◌++◌, map, length, Option, Some, None, option_map, if◌then◌else◌}
-use Rattle.term_core.specs.Shapes.{is_pair, pair_of}
+use Rattle.term_core.specs.Shapes.{greatest_arity, is_pair, pair_of}
 use Rattle.term_core.specs.declared.fixed.TheConstants.{NIL, CELL, BRACES, COMMA, BAR, CUT, SEMICOLON, NECK, GRAMMAR_ARROW, ARROW, NEGATION, EQUALS}
 use Rattle.term_core.specs.declared.terms.Term.{Term, out-Term}
 use Rattle.term_core.specs.declared.terms.Term as term
@@ -16,9 +16,9 @@ use Rattle.dcg_expand.specs.Making.{Making, made, no_line, new_variable, ◌>>=�
 abbrev pub pair : ℕ → Term → Term → Term
 pair f left right = term.Node f (left ∷ right ∷ [])
 
--- a name with these arguments, none where they are more than 255
+-- a name with these arguments, none where they are more than a compound may have
 abbrev pub compound : ℕ → List Term → Making Term
-compound f args = if nat_le (length args) 255 then made (term.Node f args) else no_line
+compound f args = if nat_le (length args) greatest_arity then made (term.Node f args) else no_line
 
 -- a name with these arguments and both variables
 abbrev pub with_two_variables : ℕ → List Term → ℕ → ℕ → Making Term

@@ -9,6 +9,3 @@ mod rules;
 pub use faults::ExpandFault;
 pub use making::{copied_all, new_variable, pair};
 pub use rules::{expand_rule, rules_in_range_law};
-
-#[cfg(test)]
-mod tests;

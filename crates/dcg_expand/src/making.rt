@@ -39,6 +39,9 @@ fn two_places(alloc: Global) -> Result<Items<Term>, NoMemory>
 }
 
 /// A compound of two arguments. These may be of any depth: where memory is refused, they are let go without recursion.
+///
+/// # Errors
+/// Where memory is refused.
 pub fn pair(alloc: Global, name: u64, left: Term, right: Term) -> Result<Term, NoMemory>
     ensures { IfOk result (λ t. t ≡ pair name left right) }
 {
@@ -57,6 +60,9 @@ pub fn pair(alloc: Global, name: u64, left: Term, right: Term) -> Result<Term, N
 }
 
 /// Equal terms.
+///
+/// # Errors
+/// Where memory is refused.
 pub fn copied_all(alloc: Global, terms: &[Term]) -> Result<Items<Term>, NoMemory>
     ensures { IfOk result (λ ts. ts ≡ terms.now) }
 {

@@ -88,7 +88,7 @@ fn clause_of(alloc: Global, rule: &Sentence) -> Result<Sentence, ExpandFault>
 /// The clause that a rule `Head --> Body` stands for. Its new variables are numbered behind its own.
 ///
 /// # Errors
-/// Where the table has no line for it, and where memory is refused.
+/// Where the table has no line for it, and where memory is refused or no variable number is left.
 pub fn expand_rule(alloc: Global, rule: &Sentence) -> Result<Sentence, ExpandFault>
     ensures expanded { Expands result (DcgExpanded rule.now) }
     ensures in_range { IfOk result (λ clause. (names : ℕ) → length fixed_names ≤ names → IsSentenceInRange names rule.now → IsSentenceInRange names clause) }

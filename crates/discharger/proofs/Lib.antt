@@ -12,3 +12,4 @@ mod DescribedSteps
 mod DescribedPoints
 mod Sound
 mod ClosedTables
+mod Rows

@@ -48,7 +48,7 @@ back_choices n changes links query points ordered = back_within n changes links 
 
 -- links
 
-same_alternative : (value : ℕ → Term) (old new : List Link) (query : ℕ) (a : Alternative) → chain new (rest_of a) ≡ chain old (rest_of a) → alternative_choices value new query a ≡ alternative_choices value old query a
+pub same_alternative : (value : ℕ → Term) (old new : List Link) (query : ℕ) (a : Alternative) → chain new (rest_of a) ≡ chain old (rest_of a) → alternative_choices value new query a ≡ alternative_choices value old query a
 same_alternative value old new query (Resumes rest) e = ap (λ tasks. Resume (frame_with value tasks query) ∷ []) e
 same_alternative value old new query (Retries left c) e = ap (λ tasks. map (λ k. Try k (call_with value tasks query c)) left) e
 same_alternative value old new query (Marks p conds exited) e = refl

@@ -12,7 +12,8 @@ use Rattle.prog_data.specs.Goals.{goal_instance}
 use Rattle.machine_model.specs.State.{Does, Exits, item_instance, frame_instance}
 use Rattle.term_heap.specs.declared.cells.Cell.{Cell}
 use Rattle.term_heap.specs.declared.cells.Cell.TheVariants.{Free, Ref}
-use Rattle.term_heap.specs.Changes.{Change, Grows, Binds, cells_of, size_of, value_of, grown, with_value, cell_term, places, IsMade}
+use Rattle.term_core.specs.Solutions.{with_value}
+use Rattle.term_heap.specs.Changes.{Change, Grows, Binds, cells_of, size_of, value_of, grown, cell_term, places, IsMade}
 use Rattle.term_heap.specs.Loads.{from_base}
 use Rattle.engine_state.specs.Engines.{Task, Runs, Cuts, Leaves, item_of, frame_with}
 use Rattle.engine_state.proofs.GoalInstances.{goal_instance-instance}

@@ -1,8 +1,8 @@
 -- Chains of links that are added, held and looked at.
-use Rattle.std.proofs.Common.{◌≡◌, ◌≤◌, ◌<◌, ℕ, suc, ◌+◌, max, List, [], ◌∷◌, ◌++◌, map, length, take, drop, reverse, get_or, refl, sym, ap, subst, ◌∙◌, arith}
+use Rattle.std.proofs.Common.{◌≡◌, ◌≤◌, ◌<◌, ℕ, suc, ◌+◌, ◌-◌, max, List, [], ◌∷◌, ◌++◌, map, length, take, drop, reverse, get_or, refl, sym, ap, subst, ◌∙◌, arith}
 use Rattle.std.specs.Prelude.{if◌then◌else◌}
 use Rattle.std.proofs.lemmas.Bool.{eq-eqb, ne_eqb}
-use Rattle.std.proofs.lemmas.List.{length-append, length-map, length-reverse, length-take-le, reverse-append, map-append, take-append-drop, take_more}
+use Rattle.std.proofs.lemmas.List.{length-append, length-map, length-reverse, length-take-le, length-drop, drop_at, reverse-append, map-append, take-append-drop, take_more}
 use Rattle.engine_state.specs.declared.tasks.Link as code
 use Rattle.engine_state.specs.Engines.{Link, chain}
 use Rattle.engine_state.specs.Stacks.{IsPushed}
@@ -10,7 +10,7 @@ use Rattle.engine_state.specs.Views.{as_task, as_link, as_links, LeadDown}
 
 -- chains
 
-chain_older : (newer older : List Link) (k : ℕ) → k ≤ length older → chain (newer ++ older) k ≡ chain older k
+pub chain_older : (newer older : List Link) (k : ℕ) → k ≤ length older → chain (newer ++ older) k ≡ chain older k
 chain_older [] older k le = refl
 chain_older (l ∷ newer) older k le =
     ap (λ b. if b then l.task ∷ chain (newer ++ older) l.next else chain (newer ++ older) k) (ne_eqb k (suc (length (newer ++ older))) (λ e. omega (arith, e, le, length-append newer older)))
@@ -33,6 +33,12 @@ chain_none (l ∷ older) = ap (λ b. if b then l.task ∷ chain older l.next els
 reversed_parts : (m : ℕ) (items : List code.Link) → reverse items ≡ reverse (drop m items) ++ reverse (take m items)
 reversed_parts m items = ap reverse (sym (take-append-drop m items)) ∙ reverse-append (take m items) (drop m items)
 
+-- the links that are kept, with the newest first
+pub reversed_front : (m : ℕ) (items : List code.Link) → m ≤ length items → reverse (take m items) ≡ drop (length items - m) (reverse items)
+reversed_front m items le =
+    let size : length (reverse (drop m items)) ≡ length items - m = length-reverse (drop m items) ∙ length-drop m items in
+    sym (ap (drop (length items - m)) (reversed_parts m items) ∙ drop_at (reverse (drop m items)) (reverse (take m items)) (length items - m) size)
+
 module _ (notes : List ℕ) where
   links_pushed : (items : List code.Link) (l : code.Link) → as_links notes (items ++ l ∷ []) ≡ as_link notes l ∷ as_links notes items
   links_pushed items l = ap (map (as_link notes)) (reverse-append items (l ∷ []))
@@ -40,11 +46,11 @@ module _ (notes : List ℕ) where
   pub length_links : (items : List code.Link) → length (as_links notes items) ≡ length items
   length_links items = length-map (reverse items) (as_link notes) ∙ length-reverse items
 
-  length_kept : (m : ℕ) (items : List code.Link) → m ≤ length items → length (as_links notes (take m items)) ≡ m
+  pub length_kept : (m : ℕ) (items : List code.Link) → m ≤ length items → length (as_links notes (take m items)) ≡ m
   length_kept m items le = length_links (take m items) ∙ length-take-le m items le
 
   -- the chains of the links that are kept
-  kept_chain : (m : ℕ) (items : List code.Link) (k : ℕ) → m ≤ length items → k ≤ m → chain (as_links notes (take m items)) k ≡ chain (as_links notes items) k
+  pub kept_chain : (m : ℕ) (items : List code.Link) (k : ℕ) → m ≤ length items → k ≤ m → chain (as_links notes (take m items)) k ≡ chain (as_links notes items) k
   kept_chain m items k within le =
       let newer = as_links notes (drop m items) in
       let older = as_links notes (take m items) in
@@ -64,6 +70,7 @@ module _ (notes : List ℕ) where
           first = ap (λ links. chain links k) is_new ∙ chain_first (as_link notes l) older k is_number ∙ ap (λ tasks. as_task notes l.task ∷ tasks) (kept_chain m old l.next enough (omega arith));
           stay = λ j le. ap (λ links. chain links j) is_new ∙ chain_older (as_link notes l ∷ []) older j (omega (arith, le, size)) ∙ kept_chain m old j enough (omega (arith, le));
           number = number ∙ sym (length_links new);
+          above = omega (arith, is_number, size);
         }
 
 -- links that lead down

@@ -1,47 +1,89 @@
 -- The choice point of a mark.
-use Rattle.std.proofs.Common.{◌≡◌, ◌<◌, ℕ, ◌+◌, List, [], ◌∷◌, ◌++◌, map, length, take, drop, reverse, get_or, refl, sym, ap, subst, ◌∙◌, arith}
+use Rattle.std.proofs.Common.{◌≡◌, ◌<◌, ◌≤◌, ℕ, zero, suc, ◌+◌, List, [], ◌∷◌, ◌++◌, map, length, take, drop, reverse, get_or, refl, sym, ap, subst, ◌∙◌, arith}
 use Rattle.std.specs.Prelude.{if◌then◌else◌, slice_set}
 use Rattle.std.proofs.lemmas.Bool.{eq-eqb, ne_eqb}
-use Rattle.std.proofs.lemmas.List.{append_assoc, append-nil, reverse-append, map-append, take-append-drop, length-take-le, drop_more, drop_all, get_or_at, set_at}
+use Rattle.std.proofs.lemmas.List.{length-append, append_assoc, append-nil, reverse-append, map-append, take-append-drop, length-take-le, drop_more, get_or_at, set_at}
+use Rattle.std.specs.List.{AllByRecursion}
 use Rattle.engine_state.specs.declared.points.ChoicePoint as code
 use Rattle.engine_state.specs.Engines.{ChoicePoint}
-use Rattle.engine_state.specs.Stacks.{exited_alternative, exit_points}
+use Rattle.engine_state.specs.Stacks.{no_mark, mark_in, mark_at_height, exited_alternative, exit_points}
 use Rattle.engine_state.specs.Views.{as_alternative, as_point, as_points}
-use Rattle.engine_state.specs.Newest.{AreElsewhere, IsFound}
+use Rattle.engine_state.specs.Newest.{AreRising, AreElsewhere, IsFound}
+use Rattle.engine_state.specs.Notes.{IsAlternativeNoted, ArePointsNoted}
+use Rattle.engine_state.proofs.EachLaws.{each_weaker, each_at, one_more_each}
+
+rising_before : (points : List code.ChoicePoint) (i : ℕ) (d : code.ChoicePoint) → i < length points → AreRising points → AllByRecursion (λ q. q.below < (get_or points i d).below) (take i points)
+rising_before [] i d less are = absurd (omega (arith, less))
+rising_before (p ∷ ps) zero d less are = tt
+rising_before (p ∷ ps) (suc i) d less are = (each_at (λ q. p.below < q.below) ps i d (omega (arith, less)) are.0, rising_before ps i d (omega (arith, less)) are.1)
+
+rising_behind : (points : List code.ChoicePoint) (i : ℕ) (d : code.ChoicePoint) → i < length points → AreRising points → AllByRecursion (λ q. (get_or points i d).below < q.below) (drop (suc i) points)
+rising_behind [] i d less are = absurd (omega (arith, less))
+rising_behind (p ∷ ps) zero d less are = are.0
+rising_behind (p ∷ ps) (suc i) d less are = rising_behind ps i d (omega (arith, less)) are.1
+
+rising_after : (points : List code.ChoicePoint) (i : ℕ) (d : code.ChoicePoint) → i < length points → AreRising points → AllByRecursion (λ q. (get_or points i d).below < q.below) (drop (i + 1) points)
+rising_after points i d less are = let next : suc i ≡ i + 1 = omega arith in subst (λ n. AllByRecursion (λ q. (get_or points i d).below < q.below) (drop n points)) next (rising_behind points i d less are)
 
 module _ (height : ℕ) where
-  -- looking from the newest down
+  -- looking by halves
 
-  pub none_seen : (points : List code.ChoicePoint) (left : ℕ) → left ≡ length points → AreElsewhere height (drop left points)
-  none_seen points left e = subst (AreElsewhere height) (sym (drop_all left points (omega (arith, e)))) tt
+  above_elsewhere : (points : List code.ChoicePoint) → AllByRecursion (λ p. height < p.below) points → AreElsewhere height points
+  above_elsewhere [] all = tt
+  above_elsewhere (p ∷ ps) all = ((λ e. omega (arith, e, all.0)), above_elsewhere ps all.1)
 
-  last_part : (points : List code.ChoicePoint) (place left : ℕ) (p d : code.ChoicePoint) → left ≡ place + 1 → place < length points → p ≡ get_or points place d → drop place points ≡ p ∷ drop left points
-  last_part points place left p d e less is = drop_more points place d less ∙ (λ i. sym is i ∷ drop (sym e i) points)
-
-  pub one_more : (points : List code.ChoicePoint) (place left : ℕ) (p d : code.ChoicePoint) → left ≡ place + 1 → place < length points → p ≡ get_or points place d → (height ≡ p.below → ⊥) →
-      AreElsewhere height (drop left points) → AreElsewhere height (drop place points)
-  one_more points place left p d e less is ne others = subst (AreElsewhere height) (sym (last_part points place left p d e less is)) (ne, others)
-
-  pub found_here : (points : List code.ChoicePoint) (place left : ℕ) (p d : code.ChoicePoint) → left ≡ place + 1 → place < length points → p ≡ get_or points place d → height ≡ p.below →
-      AreElsewhere height (drop left points) → IsFound height points place
-  found_here points place left p d e less is here others = record {
-    older = take place points;
-    found = p;
-    newer = drop left points;
-    is = sym (take-append-drop place points) ∙ ap (λ xs. take place points ++ xs) (last_part points place left p d e less is);
-    place_is = length-take-le place points (omega (arith, less));
-    below = here;
-    others = others;
-  }
-
-  found_is : (points : List code.ChoicePoint) (place : ℕ) (d : code.ChoicePoint) (at : IsFound height points place) → get_or points place d ≡ at.found
-  found_is points place d at = ap (λ ps. get_or ps place d) at.is ∙ get_or_at at.older at.found at.newer d place at.place_is
-
-  -- exits
+  below_elsewhere : (points : List code.ChoicePoint) → AllByRecursion (λ p. p.below < height) points → AreElsewhere height points
+  below_elsewhere [] all = tt
+  below_elsewhere (p ∷ ps) all = ((λ e. omega (arith, e, all.0)), below_elsewhere ps all.1)
 
   both_elsewhere : (xs ys : List code.ChoicePoint) → AreElsewhere height xs → AreElsewhere height ys → AreElsewhere height (xs ++ ys)
   both_elsewhere [] ys are others = others
   both_elsewhere (x ∷ xs) ys are others = (are.0, both_elsewhere xs ys are.1 others)
+
+  -- the halves that are left out are all
+  pub halves_meet : (points : List code.ChoicePoint) (low high : ℕ) → low ≡ high → AllByRecursion (λ p. p.below < height) (take low points) → AllByRecursion (λ p. height < p.below) (drop high points) → AreElsewhere height points
+  halves_meet points low high e lower upper =
+      subst (AreElsewhere height) (ap (λ n. take n points ++ drop high points) e ∙ take-append-drop high points)
+      (both_elsewhere (take low points) (drop high points) (below_elsewhere (take low points) lower) (above_elsewhere (drop high points) upper))
+
+  last_part : (points : List code.ChoicePoint) (place : ℕ) (p d : code.ChoicePoint) → place < length points → p ≡ get_or points place d → drop place points ≡ p ∷ drop (place + 1) points
+  last_part points place p d less is = drop_more points place d less ∙ ap (λ q. q ∷ drop (place + 1) points) (sym is)
+
+  module _ (points : List code.ChoicePoint) (place : ℕ) (p d : code.ChoicePoint) (rising : AreRising points) (less : place < length points) (is : p ≡ get_or points place d) where
+    before_place : AllByRecursion (λ q. q.below < p.below) (take place points)
+    before_place = subst (λ r. AllByRecursion (λ q. q.below < r.below) (take place points)) (sym is) (rising_before points place d less rising)
+
+    after_place : AllByRecursion (λ q. p.below < q.below) (drop (place + 1) points)
+    after_place = subst (λ r. AllByRecursion (λ q. r.below < q.below) (drop (place + 1) points)) (sym is) (rising_after points place d less rising)
+
+    pub found_here : height ≡ p.below → IsFound height points place
+    found_here here = record {
+      older = take place points;
+      found = p;
+      newer = drop (place + 1) points;
+      is = sym (take-append-drop place points) ∙ ap (λ xs. take place points ++ xs) (last_part points place p d less is);
+      place_is = length-take-le place points (omega (arith, less));
+      below = here;
+      others = above_elsewhere (drop (place + 1) points) (each_weaker (λ q. p.below < q.below) (λ q. height < q.below) (λ q lt. omega (arith, lt, here)) (drop (place + 1) points) after_place);
+    }
+
+    -- the lower half is left out
+    pub lower_half : (low : ℕ) → low ≡ place + 1 → p.below < height → AllByRecursion (λ q. q.below < height) (take low points)
+    lower_half low e lt = one_more_each (λ q. q.below < height) points place low d less e
+        (each_weaker (λ q. q.below < p.below) (λ q. q.below < height) (λ q below. omega (arith, below, lt)) (take place points) before_place) (subst (λ r. r.below < height) is lt)
+
+    -- the upper half is left out
+    pub upper_half : (p.below ≡ height → ⊥) → height ≤ p.below → AllByRecursion (λ q. height < q.below) (drop place points)
+    upper_half ne le = let lt : height < p.below = omega (arith, ne, le) in subst (AllByRecursion (λ q. height < q.below)) (sym (last_part points place p d less is))
+        (lt, each_weaker (λ q. p.below < q.below) (λ q. height < q.below) (λ q above. omega (arith, above, lt)) (drop (place + 1) points) after_place)
+
+  pub found_is : (points : List code.ChoicePoint) (place : ℕ) (d : code.ChoicePoint) (at : IsFound height points place) → get_or points place d ≡ at.found
+  found_is points place d at = ap (λ ps. get_or ps place d) at.is ∙ get_or_at at.older at.found at.newer d place at.place_is
+
+  pub found_within : (points : List code.ChoicePoint) (place : ℕ) (at : IsFound height points place) → place < length points
+  found_within points place at = omega (arith, ap length at.is, length-append at.older (at.found ∷ at.newer), at.place_is)
+
+  -- exits
 
   reverse_elsewhere : (xs : List code.ChoicePoint) → AreElsewhere height xs → AreElsewhere height (reverse xs)
   reverse_elsewhere [] are = tt
@@ -78,3 +120,27 @@ module _ (height : ℕ) where
         ∙ sym (ap (exit_points height) (ap (as_points notes) at.is ∙ parts_are at.older at.newer at.found)
         ∙ exit_past (reverse at.newer) (x ∷ older) (reverse_elsewhere at.newer at.others)
         ∙ ap (λ b. newer ++ (if b then record x { alternative = exited_alternative x.alternative } ∷ older else x ∷ exit_points height older)) (eq-eqb height at.found.below at.below))
+
+    -- marks that are looked at
+
+    seen_past : (newer : List code.ChoicePoint) (rest : List ChoicePoint) → AreElsewhere height newer → mark_at_height height (map (as_point notes) newer ++ rest) ≡ mark_at_height height rest
+    seen_past [] rest are = refl
+    seen_past (p ∷ newer) rest are =
+        ap (λ b. if b then mark_in (as_alternative notes p.alternative) else mark_at_height height (map (as_point notes) newer ++ rest)) (ne_eqb height p.below are.0) ∙ seen_past newer rest are.1
+
+    pub seen_nowhere : (points : List code.ChoicePoint) → AreElsewhere height points → no_mark ≡ mark_at_height height (as_points notes points)
+    seen_nowhere points are =
+        let all = map (as_point notes) (reverse points) in
+        sym (ap (mark_at_height height) (sym (append-nil all)) ∙ seen_past (reverse points) [] (reverse_elsewhere points are))
+
+    pub seen_found : (points : List code.ChoicePoint) (place : ℕ) (p d : code.ChoicePoint) → IsFound height points place → p ≡ get_or points place d → mark_in (as_alternative notes p.alternative) ≡ mark_at_height height (as_points notes points)
+    seen_found points place p d at is_p =
+        let older = as_points notes at.older in
+        let x = as_point notes at.found in
+        ap (λ r. mark_in (as_alternative notes r.alternative)) (is_p ∙ found_is points place d at)
+        ∙ sym (ap (mark_at_height height) (ap (as_points notes) at.is ∙ parts_are at.older at.newer at.found)
+        ∙ seen_past (reverse at.newer) (x ∷ older) (reverse_elsewhere at.newer at.others)
+        ∙ ap (λ b. if b then mark_in x.alternative else mark_at_height height older) (eq-eqb height at.found.below at.below))
+
+  pub noted_at : (held : ℕ) (points : List code.ChoicePoint) (place : ℕ) (p d : code.ChoicePoint) → place < length points → p ≡ get_or points place d → ArePointsNoted held points → IsAlternativeNoted held p.alternative
+  noted_at held points place p d less is all = subst (λ r. IsAlternativeNoted held r.alternative) (sym is) (each_at (λ r. IsAlternativeNoted held r.alternative) points place d less all)

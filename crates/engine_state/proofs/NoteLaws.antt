@@ -38,6 +38,7 @@ module _ (held : ℕ) (old more : List ℕ) (enough : held ≤ length old) where
   task_stays : (t : code_task.Task) → IsTaskNoted held t → as_task new t ≡ as_task old t
   task_stays (task.Runs goal base h place) within = refl
   task_stays (task.Cuts h) within = refl
+  task_stays (task.Fails h place) within = refl
   task_stays (task.Leaves e) within = ap (λ noted. Leaves (record (as_exit old e) { noted = noted })) (row_stays e.noted within)
 
   alternative_stays : (a : code_alternative.Alternative) → IsAlternativeNoted held a → as_alternative new a ≡ as_alternative old a

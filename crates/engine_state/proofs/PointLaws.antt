@@ -1,5 +1,5 @@
 -- The newest choice point, and what is taken off it.
-use Rattle.std.proofs.Common.{◌≡◌, ◌≤◌, ◌<◌, ℕ, zero, suc, ◌+◌, ◌-◌, max, List, [], ◌∷◌, ◌++◌, map, length, take, drop, get_or, refl, sym, ap, subst, ◌∙◌, arith}
+use Rattle.std.proofs.Common.{◌≡◌, ◌≤◌, ◌<◌, ℕ, zero, suc, ◌+◌, ◌-◌, max, List, [], ◌∷◌, ◌++◌, map, reverse, length, take, drop, get_or, refl, sym, ap, subst, ◌∙◌, arith}
 use Rattle.std.specs.Prelude.{if◌then◌else◌, slice_set}
 use Rattle.std.proofs.lemmas.Bool.{le-leb, lt-leb}
 use Rattle.std.proofs.lemmas.List.{length-append, reverse-append, take_all, take_at, take_more, set_at}
@@ -11,7 +11,8 @@ use Rattle.engine_state.specs.declared.points.Alternative.TheVariants as code_al
 use Rattle.engine_state.specs.Engines.{Pending, Retries, ChoicePoint}
 use Rattle.engine_state.specs.Stacks.{width, height_of, shortened, cut_points, IsTaken}
 use Rattle.engine_state.specs.Views.{as_alternative, as_pending, as_point, as_points}
-use Rattle.engine_state.specs.Newest.{IsNewest, held_links}
+use Rattle.engine_state.specs.Newest.{IsNewest}
+use Rattle.engine_state.specs.Moments.{links_held, notes_held}
 
 -- the newest
 
@@ -21,12 +22,27 @@ newest_is points n p d e is = record {
   is = sym (take_all (n + 1) points (omega (arith, e))) ∙ take_more points n d (omega (arith, e)) ∙ ap (λ x. take n points ++ x ∷ []) (sym is);
 }
 
+-- what it holds
+
+pub none_held : (points : List code.ChoicePoint) → points ≡ [] → links_held (reverse points) ≡ 0
+none_held points e = ap (λ ps. links_held (reverse ps)) e
+
+pub none_noted : (points : List code.ChoicePoint) → points ≡ [] → notes_held (reverse points) ≡ 0
+none_noted points e = ap (λ ps. notes_held (reverse ps)) e
+
+module _ (points : List code.ChoicePoint) (p : code.ChoicePoint) (at_end : IsNewest points p) where
+  newest_first : reverse points ≡ p ∷ reverse at_end.older
+  newest_first = ap reverse at_end.is ∙ reverse-append at_end.older (p ∷ [])
+
+  pub links_are : p.links ≡ links_held (reverse points)
+  links_are = sym (ap links_held newest_first)
+
+  pub notes_are : p.notes ≡ notes_held (reverse points)
+  notes_are = sym (ap notes_held newest_first)
+
 module _ (notes : List ℕ) (points : List code.ChoicePoint) (p : code.ChoicePoint) (at_end : IsNewest points p) where
   pub points_are : as_points notes points ≡ as_point notes p ∷ as_points notes at_end.older
   points_are = ap (as_points notes) at_end.is ∙ ap (map (as_point notes)) (reverse-append at_end.older (p ∷ []))
-
-  pub links_held : p.links ≡ held_links (as_points notes points)
-  links_held = sym (ap held_links points_are)
 
   pub height_is : p.below + width (as_alternative notes p.alternative) ≡ height_of (as_points notes points)
   height_is = sym (ap height_of points_are)

@@ -7,12 +7,12 @@ use Rattle.prog_data.specs.declared.goals.Goal.{Goal}
 use Rattle.prog_data.specs.declared.programs.Clause.{Clause}
 use Rattle.prog_data.specs.Goals.{goal_instance}
 use Rattle.machine_model.specs.State.{Call, Try, frame_instance, cut, exit_mark}
-use Rattle.machine_model.specs.Step.{tries}
+use Rattle.machine_model.specs.Step.{tries, mark_of}
 use Rattle.term_heap.specs.declared.cells.Cell.TheVariants.{Free}
 use Rattle.term_heap.specs.Changes.{Change, Grows, value_of, size_of, places, undone, IsMade}
 use Rattle.term_heap.specs.Loads.{from_base}
 use Rattle.engine_state.specs.Engines.{Task, Link, chain, ChoicePoint, frame_with, alternative_choices, point_choices, choices_of, AreInOrder, AreHeld}
-use Rattle.engine_state.specs.Stacks.{height_of, AreCounted, cut_points, exit_points}
+use Rattle.engine_state.specs.Stacks.{height_of, AreCounted, cut_points, exit_points, mark_at_height, mark_seen}
 
 -- what leaves the choices as they are: changes made later, changes undone that are as old as the newest choice point, and links beside those that are held
 pub record ChoicesStay : Type 0 where
@@ -49,10 +49,18 @@ pub record PointsCut : Type 0 where
   pub in_order : (height trail : ℕ) (points : List ChoicePoint) → AreInOrder trail points → AreInOrder trail (cut_points height points)
   pub held : (height links : ℕ) (points : List ChoicePoint) → AreHeld links points → AreHeld links (cut_points height points)
 
--- marks are exited as the choice points are that stand for them
-abbrev pub PointsExit : Type 0
-PointsExit = (changes : List Change) (links : List Link) (query height : ℕ) (points : List ChoicePoint) → AreCounted points →
-    choices_of changes links query (exit_points height points) ≡ exit_mark (Some height) (choices_of changes links query points)
+-- marks are exited as the choice points are that stand for them, which keep what they kept
+pub record PointsExit : Type 0 where
+  pub exits : (changes : List Change) (links : List Link) (query height : ℕ) (points : List ChoicePoint) → AreCounted points →
+      choices_of changes links query (exit_points height points) ≡ exit_mark (Some height) (choices_of changes links query points)
+  pub counted : (height : ℕ) (points : List ChoicePoint) → AreCounted points → AreCounted (exit_points height points)
+  pub in_order : (height trail : ℕ) (points : List ChoicePoint) → AreInOrder trail points → AreInOrder trail (exit_points height points)
+  pub held : (height links : ℕ) (points : List ChoicePoint) → AreHeld links points → AreHeld links (exit_points height points)
+
+-- what there is of a mark among the choices is what the choice point at its height has
+abbrev pub MarksAreFound : Type 0
+MarksAreFound = (changes : List Change) (links : List Link) (query height : ℕ) (points : List ChoicePoint) → AreCounted points →
+    mark_at_height height points ≡ mark_seen (mark_of (Some height) (choices_of changes links query points))
 
 -- the variables of a place's term are cells
 abbrev pub TermsAreBelow : Type 0

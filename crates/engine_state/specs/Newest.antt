@@ -1,18 +1,18 @@
 -- The newest of the choice points, and the one with so many choices below it.
 -- The headline does not rest on this file.
-use Rattle.std.specs.Prelude.{◌≡◌, ℕ, List, [], ◌∷◌, ◌++◌, length, ⊤}
+use Rattle.std.specs.Prelude.{◌≡◌, ◌<◌, ℕ, List, [], ◌∷◌, ◌++◌, length, ⊤}
+use Rattle.std.specs.List.{AllByRecursion}
 use Rattle.engine_state.specs.declared.points.ChoicePoint as code
-use Rattle.engine_state.specs.Engines.{ChoicePoint}
 
 -- a choice point stands behind all others
 pub record IsNewest (points : List code.ChoicePoint) (p : code.ChoicePoint) : Type 0 where
   pub older : List code.ChoicePoint
   pub is : points ≡ older ++ p ∷ []
 
--- how many links the newest holds
-abbrev pub held_links : List ChoicePoint → ℕ
-held_links [] = 0
-held_links (p ∷ ps) = p.links
+-- each has fewer choices below it than those behind it
+abbrev pub AreRising : List code.ChoicePoint → Type 0
+AreRising [] = ⊤
+AreRising (p ∷ newer) = AllByRecursion (λ q. p.below < q.below) newer × AreRising newer
 
 -- none of these has so many choices below it
 abbrev pub AreElsewhere : ℕ → List code.ChoicePoint → Type 0

@@ -19,6 +19,7 @@ IsRowWithin held row = row.first + row.count ≤ held
 abbrev pub IsTaskNoted : ℕ → code_task.Task → Type 0
 IsTaskNoted held (task.Runs goal base h place) = ⊤
 IsTaskNoted held (task.Cuts h) = ⊤
+IsTaskNoted held (task.Fails h place) = ⊤
 IsTaskNoted held (task.Leaves e) = IsRowWithin held e.noted
 
 -- so of an alternative

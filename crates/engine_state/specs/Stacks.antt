@@ -1,16 +1,19 @@
 -- What is done to links and choice points.
 -- The headline does not rest on this file.
-use Rattle.std.specs.Prelude.{◌≡◌, ◌≤◌, ℕ, ◌+◌, ◌-◌, ◌==◌, nat_le, true, List, [], ◌∷◌, ◌++◌, length, drop, if◌then◌else◌, ⊤}
+use Rattle.std.specs.Prelude.{◌≡◌, ◌≤◌, ◌<◌, ℕ, ◌+◌, ◌-◌, ◌==◌, nat_le, true, List, [], ◌∷◌, ◌++◌, length, max, drop, Bool, false, Option, if◌then◌else◌, ⊤}
+use Rattle.machine_model.specs.State.{Choice}
+use Rattle.machine_model.specs.Step.{mark_conds, mark_exited}
 use Rattle.term_heap.specs.Changes.{Change}
 use Rattle.engine_state.specs.Engines.{Task, Link, chain, Alternative, Resumes, Retries, Marks, ChoicePoint, point_choices, choices_of, AreInOrder, AreHeld}
 
 -- links
 
--- a link with this task was put before those from one on, and has this number; the chains of the links that are held stay
+-- a link with this task was put before those from one on, and has this number; the chains of those links and of the links that are held stay
 pub record IsPushed (held rest : ℕ) (old : List Link) (task : Task) (k : ℕ) (new : List Link) : Type 0 where
   pub first : chain new k ≡ task ∷ chain old rest
-  pub stay : (j : ℕ) → j ≤ held → chain new j ≡ chain old j
+  pub stay : (j : ℕ) → j ≤ max held rest → chain new j ≡ chain old j
   pub number : k ≡ length new
+  pub above : rest < k
 
 -- heights
 
@@ -51,6 +54,30 @@ exited_alternative (Marks p conds exited) = Marks p conds true
 abbrev pub exit_points : ℕ → List ChoicePoint → List ChoicePoint
 exit_points height [] = []
 exit_points height (p ∷ ps) = if height == p.below then record p { alternative = exited_alternative p.alternative } ∷ ps else p ∷ exit_points height ps
+
+-- what there is of a mark: its conditions, and whether it is exited
+pub record Marked : Type 0 where
+  pub conds : List ℕ
+  pub exited : Bool
+
+-- nothing of a mark
+abbrev pub no_mark : Marked
+no_mark = record { conds = []; exited = false }
+
+-- what an alternative has of a mark
+abbrev pub mark_in : Alternative → Marked
+mark_in (Resumes rest) = no_mark
+mark_in (Retries left c) = no_mark
+mark_in (Marks p conds exited) = record { conds = conds; exited = exited }
+
+-- what the choice point with that many choices below it has of a mark
+abbrev pub mark_at_height : ℕ → List ChoicePoint → Marked
+mark_at_height height [] = no_mark
+mark_at_height height (p ∷ ps) = if height == p.below then mark_in p.alternative else mark_at_height height ps
+
+-- what there is of a mark in the choice that was found
+abbrev pub mark_seen : Option Choice → Marked
+mark_seen found = record { conds = mark_conds found; exited = mark_exited found }
 
 -- the newest choice was taken off, as a choice point of its own
 pub record IsTaken (old : List ChoicePoint) (p : ChoicePoint) (new : List ChoicePoint) : Type 0 where

@@ -1,6 +1,7 @@
 -- The links and choice points that the code's are: its last is the newest.
 -- The headline does not rest on this file.
 use Rattle.std.specs.Prelude.{◌≤◌, ℕ, ◌-◌, List, [], ◌∷◌, map, take, drop, length, reverse, ⊤}
+use Rattle.prog_data.specs.declared.goals.Goal.{Fail}
 use Rattle.term_heap.specs.Changes.{places}
 use Rattle.engine_state.specs.declared.tasks.Row.{Row}
 use Rattle.engine_state.specs.declared.tasks.Exit as code
@@ -11,6 +12,8 @@ use Rattle.engine_state.specs.declared.points.Pending as code_pending
 use Rattle.engine_state.specs.declared.points.Alternative as code_alternative
 use Rattle.engine_state.specs.declared.points.Alternative.TheVariants as alternative
 use Rattle.engine_state.specs.declared.points.ChoicePoint as code_point
+use Rattle.engine_state.specs.declared.marks.Marked as code_marked
+use Rattle.engine_state.specs.Stacks.{Marked}
 use Rattle.engine_state.specs.Engines.{Exit, Task, Runs, Cuts, Leaves, Link, Pending, Alternative, Resumes, Retries, Marks, ChoicePoint}
 
 -- the numbers of a row
@@ -24,6 +27,7 @@ module _ (notes : List ℕ) where
   abbrev pub as_task : code_task.Task → Task
   as_task (task.Runs goal base h place) = Runs goal.now base h place
   as_task (task.Cuts h) = Cuts h
+  as_task (task.Fails h place) = Runs Fail 0 h place
   as_task (task.Leaves e) = Leaves (as_exit e)
 
   abbrev pub as_link : code_link.Link → Link
@@ -43,6 +47,9 @@ module _ (notes : List ℕ) where
 
   abbrev pub as_point : code_point.ChoicePoint → ChoicePoint
   as_point p = record { trail = p.trail; links = p.links; below = p.below; alternative = as_alternative p.alternative }
+
+  abbrev pub as_marked : code_marked.Marked → Marked
+  as_marked m = record { conds = row_of notes m.conds; exited = m.exited }
 
   -- choice points, the newest first
   abbrev pub as_points : List code_point.ChoicePoint → List ChoicePoint

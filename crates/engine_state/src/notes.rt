@@ -6,7 +6,7 @@ ghost use Rattle.engine_state.specs.Notes.{IsRowWithin};
 use crate::tasks::Row;
 
 /// The notes of a row.
-pub(crate) fn noted(notes: &[u64], row: Row) -> &[u64]
+pub fn noted(notes: &[u64], row: Row) -> &[u64]
     requires { IsRowWithin (length notes.now) row }
     ensures { result.now ≡ row_of notes.now row }
 {

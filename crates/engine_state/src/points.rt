@@ -1,15 +1,19 @@
 // Choice points, of which the last is the newest.
-ghost use Rattle.std.specs.Prelude.{◌≡◌, ◌≤◌, ◌+◌, ◌∷◌, ◌++◌, [], ℕ, List, length, reverse, IfOk, MatchOption};
+ghost use Rattle.std.specs.Prelude.{◌≡◌, ◌≤◌, ◌<◌, ◌+◌, ◌∷◌, ◌++◌, [], ℕ, List, length, reverse, IfOk, IfSome, MatchOption};
+ghost use Rattle.prog_data.specs.declared.programs.Program.{Program};
+ghost use Rattle.term_heap.specs.Changes.{Change};
+ghost use Rattle.engine_state.specs.declared.tasks.Link.{Link};
 ghost use Rattle.engine_state.specs.Stacks.{width, height_of, shortened, cut_points, IsTaken};
 ghost use Rattle.engine_state.specs.Views.{as_alternative, as_point, as_points};
-ghost use Rattle.engine_state.specs.Newest.{IsNewest, held_links};
+ghost use Rattle.engine_state.specs.Newest.{IsNewest};
+ghost use Rattle.engine_state.specs.Moments.{links_held, notes_held, HasMoments, MayBecome, HasItsMoment};
 
 use crate::tasks::{Exit, Row};
 use term_core::NoMemory;
 
 /// A call with clauses left to be tried: its exit, the height before them, and the link behind it.
 #[derive(Clone, Copy, Drop)]
-pub(crate) struct Pending {
+pub struct Pending {
     pub exit: Exit,
     pub height: u64,
     pub rest: u64,
@@ -17,7 +21,7 @@ pub(crate) struct Pending {
 
 /// What failure goes back to.
 #[derive(Clone, Copy, Drop)]
-pub(crate) enum Alternative {
+pub enum Alternative {
     /// A link.
     Resumes(u64),
     /// The clauses of a call from a number on, before another.
@@ -28,7 +32,7 @@ pub(crate) enum Alternative {
 
 /// An alternative, with the length of the trail and the numbers of links and notes when it was made, and how many choices were below it.
 #[derive(Clone, Copy, Drop)]
-pub(crate) struct ChoicePoint {
+pub struct ChoicePoint {
     pub trail: u64,
     pub links: u64,
     pub notes: u64,
@@ -63,11 +67,21 @@ pub(crate) fn newest(points: &[ChoicePoint]) -> Option<ChoicePoint>
 
 /// How many links the choice points hold.
 pub(crate) fn held_links(points: &[ChoicePoint]) -> u64
-    ensures { (notes : List ℕ) → result ≡ held_links (as_points notes points.now) }
+    ensures { result ≡ links_held (reverse points.now) }
 {
     match newest(points) {
         None => 0,
         Some(point) => point.links,
+    }
+}
+
+/// How many notes the choice points hold.
+pub(crate) fn held_notes(points: &[ChoicePoint]) -> u64
+    ensures { result ≡ notes_held (reverse points.now) }
+{
+    match newest(points) {
+        None => 0,
+        Some(point) => point.notes,
     }
 }
 
@@ -101,7 +115,8 @@ pub(crate) fn height(points: &[ChoicePoint]) -> Result<u64, NoMemory>
 
 // An alternative with only so many of its clauses left, the last ones.
 fn shortened(alternative: Alternative, left: u64) -> Alternative
-    ensures { (notes : List ℕ) → as_alternative notes result ≡ shortened left (as_alternative notes alternative) }
+    ensures shortened { (notes : List ℕ) → as_alternative notes result ≡ shortened left (as_alternative notes alternative) }
+    ensures may { (program : Program) → 0 < left → MayBecome program alternative result }
 {
     match alternative {
         Alternative::Resumes(rest) => Alternative::Resumes(rest),
@@ -114,7 +129,8 @@ fn shortened(alternative: Alternative, left: u64) -> Alternative
 
 /// Takes the newest choices off, also those within one choice point, until that many are left.
 pub(crate) fn cut_points(points: &mut Vec<ChoicePoint>, height: u64)
-    ensures { (notes : List ℕ) → as_points notes points.new.items ≡ cut_points height (as_points notes points.old.items) }
+    ensures cut { (notes : List ℕ) → as_points notes points.new.items ≡ cut_points height (as_points notes points.old.items) }
+    ensures moments { (program : Program) (query : ℕ) (changes : List Change) (notes : List ℕ) (links : List Link) → HasMoments program query changes notes links points.old.items → HasMoments program query changes notes links points.new.items }
 {
     while let Some(point) = newest(points.as_slice()) {
         if point.below < height {
@@ -128,7 +144,8 @@ pub(crate) fn cut_points(points: &mut Vec<ChoicePoint>, height: u64)
 
 /// Takes the newest choice off, as a choice point of its own.
 pub(crate) fn take_newest(points: &mut Vec<ChoicePoint>) -> Option<ChoicePoint>
-    ensures { (notes : List ℕ) → MatchOption result (as_points notes points.old.items ≡ []) (λ p. IsTaken (as_points notes points.old.items) (as_point notes p) (as_points notes points.new.items)) }
+    ensures taken { (notes : List ℕ) → MatchOption result (as_points notes points.old.items ≡ []) (λ p. IsTaken (as_points notes points.old.items) (as_point notes p) (as_points notes points.new.items)) }
+    ensures back { (program : Program) (query : ℕ) (changes : List Change) (notes : List ℕ) (links : List Link) → HasMoments program query changes notes links points.old.items → IfSome result (λ p. HasItsMoment program query changes notes links p points.new.items) }
 {
     match newest(points.as_slice()) {
         None => None,

@@ -12,15 +12,15 @@ use Rattle.dcg_expand.specs.declared.faults.ExpandFault.TheVariants.{BadExpansio
 use Rattle.dcg_expand.specs.Making.{Making, made, no_line, new_variable, ◌>>=◌}
 use Rattle.dcg_expand.specs.Expansion.{compound}
 
--- behind some goals, something with more goals
+-- from the goals so far: something, and these goals with those that it adds behind them
 abbrev pub Flattened : Type 0 → Type 0
 Flattened A = List Term → Making (A × List Term)
 
--- without a goal
+-- this, with no goal added to those so far
 abbrev pub without_goals : {A : Type 0} → A → Flattened A
 without_goals x goals = made (x, goals)
 
--- a term with one more argument, none where it would have more than 255, or is no atom and no compound
+-- a term with one more argument, none where it would have more than a compound may have, or is no atom and no compound
 abbrev pub with_one_more : Term-F Term → Term → Making Term
 with_one_more (Atom a) last = compound a (last ∷ [])
 with_one_more (Node f args) last = compound f (args ++ last ∷ [])

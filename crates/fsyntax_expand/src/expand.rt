@@ -205,7 +205,7 @@ fn clauses_of(alloc: Global, clause: &Sentence) -> Result<Items<Sentence>, Expan
 /// The clauses that a clause stands for, in order. The new variables of each are numbered behind its own.
 ///
 /// # Errors
-/// Where the tables have no line for it, and where memory is refused.
+/// Where the tables have no line for it, and where memory is refused or no variable number is left.
 pub fn expand_clause(alloc: Global, clause: &Sentence) -> Result<Items<Sentence>, ExpandFault>
     ensures expanded { Expands result (FunctionalExpanded clause.now) }
     ensures in_range { IfOk result (λ clauses. (names : ℕ) → length fixed_names ≤ names → IsSentenceInRange names clause.now → AllByRecursion (IsSentenceInRange names) clauses) }

@@ -8,6 +8,3 @@ mod expand;
 mod flattening;
 
 pub use expand::{clauses_in_range_law, expand_clause};
-
-#[cfg(test)]
-mod tests;

@@ -8,7 +8,6 @@ use Rattle.term_core.specs.Terms.{above}
 use Rattle.prog_data.specs.declared.conditions.Prop.{Prop}
 use Rattle.prog_data.specs.declared.conditions.Prop.TheVariants as prop
 use Rattle.prog_data.specs.declared.conditions.Cond.{Cond}
-use Rattle.prog_data.specs.declared.conditions.CondKind.{CondKind}
 use Rattle.prog_data.specs.declared.conditions.CondKind.TheVariants.{Calls, Success}
 use Rattle.prog_data.specs.declared.programs.Clause.{Clause}
 use Rattle.prog_data.specs.declared.programs.Pred.{Pred}

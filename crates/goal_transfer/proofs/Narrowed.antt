@@ -1,5 +1,5 @@
 -- The turn of a loop over conditions, and a predicate that is not there.
-use Rattle.std.proofs.Common.{◌≡◌, ℕ, zero, suc, ◌+◌, ◌<◌, Bool, true, false, List, [], ◌∷◌, length, get_or, drop, refl, ap, sym, ◌∙◌, true≢false}
+use Rattle.std.proofs.Common.{◌≡◌, ℕ, zero, suc, ◌+◌, ◌<◌, false, List, [], ◌∷◌, length, get_or, drop, refl, ap, sym, ◌∙◌, true≢false}
 use Rattle.std.proofs.lemmas.List.{at_drop_more}
 use Rattle.std.specs.Prelude.{slice_get, slice_index_or, Option, None, Some}
 use Rattle.prog_data.specs.declared.conditions.CondKind.{CondKind}
@@ -7,7 +7,7 @@ use Rattle.prog_data.specs.declared.conditions.CondKind.TheVariants.{Calls, Succ
 use Rattle.prog_data.specs.declared.programs.Pred.{Pred}
 use Rattle.prog_data.specs.declared.programs.Program.{Program}
 use Rattle.prog_data.specs.Conditions.{kind_of, is_calls}
-use Rattle.prog_data.specs.Goals.{no_pred, pred_of}
+use Rattle.prog_data.specs.Goals.{no_pred}
 use Rattle.prog_data.specs.Values.{TypeValue}
 use Rattle.name_order.specs.Relations.{Order}
 use Rattle.goal_transfer.specs.Conditions.{entry_at, entry_by, narrowed_entry, exit_by, narrowed_exit}

@@ -6,11 +6,11 @@ use Rattle.std.specs.Prelude.{nat_lt, slice_get, slice_index_or, Option, None, S
 use Rattle.prog_data.specs.declared.programs.Program.{Program}
 use Rattle.prog_data.specs.declared.tables.Value.{Value}
 use Rattle.prog_data.specs.declared.tables.Row.{Row}
-use Rattle.prog_data.specs.Values.{TypeValue, seen}
+use Rattle.prog_data.specs.Values.{seen}
 use Rattle.name_order.specs.Relations.{Order}
 use Rattle.type_domain.specs.Values.{term_name, of_name}
 use Rattle.goal_transfer.specs.Conditions.{narrowed_exit}
-use Rattle.goal_transfer.specs.Tables.{Facts, row_seen, no_facts, facts_of, exit_where, exits_of, unknown}
+use Rattle.goal_transfer.specs.Tables.{row_seen, no_facts, facts_of, exit_where, exits_of, unknown}
 use Rattle.goal_transfer.specs.States.{values_seen, list_seen, exit_seen, exits_seen}
 
 -- one more in a list

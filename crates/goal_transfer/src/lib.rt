@@ -24,6 +24,3 @@ pub use narrowing::{narrowed_entry, narrowed_exit};
 pub use properties::{all_implied, some_excluded, types_of};
 pub use states::{Effect, Reached, State};
 pub use transfer::{run_clause, run_goal, unify_values};
-
-#[cfg(test)]
-mod tests;

@@ -1,13 +1,13 @@
 -- A state of a run that tests every condition, and the one that a run which has only some of them is in: marks with none of these are gone, and each height counts the choices that are left.
 use Rattle.std.proofs.Common.{◌≡◌, ℕ, suc, ◌<◌, ◌≤◌, Bool, true, false, List, [], ◌∷◌, length, map, refl, ap, sym, ◌∙◌, subst, arith, cond, ◌⊎◌, inl, inr}
-use Rattle.std.proofs.lemmas.Bool.Decides.{nat_tests}
-use Rattle.std.specs.Prelude.{nat_le, ◌==◌, Option, None, Some, if◌then◌else◌, filter}
+use Rattle.std.specs.Prelude.{Option, None, Some, filter}
 use Rattle.term_core.specs.declared.terms.Term.{Term}
 use Rattle.term_core.specs.Unify.{Stage}
 use Rattle.prog_data.specs.declared.goals.Goal.{Goal}
 use Rattle.prog_data.specs.declared.programs.Place.{Place}
-use Rattle.machine_model.specs.State.{Item, Does, CutTo, Exits, Frame, Call, Choice, Resume, Try, Mark, Current, Doing, Solving, Failed, State, item_instance, cut, choice_at, exited, exit_mark}
+use Rattle.machine_model.specs.State.{Item, Does, CutTo, Exits, Frame, Call, Choice, Resume, Try, Mark, Current, Doing, Solving, Failed, State, item_instance, cut, choice_at, exit_mark}
 use Rattle.machine_model.specs.Step.{mark_of, mark_conds, mark_exited, with_mark, mark_height}
+use Rattle.machine_model.proofs.Heights.{cut_on, cut_whole, at_here, at_newer, exit_here, exit_newer}
 
 -- a choice that is no mark, a mark that both have, and one that the other lacks, with its conditions
 pub data Kind : Type 0 where
@@ -116,13 +116,6 @@ module _ (keeps : ℕ → Bool) where
 
   -- cuts
 
-  cut_on : (h : ℕ) (c : Choice) (cs : List Choice) → h ≤ length cs → cut h (c ∷ cs) ≡ cut h cs
-  cut_on h c cs le = let e : nat_le h (length cs) ≡ true = grind (arith, nat_tests) in ap (λ b. if b then cut h cs else c ∷ cs) e
-
-  cut_whole : (cs : List Choice) → cut (length cs) cs ≡ cs
-  cut_whole [] = refl
-  cut_whole (c ∷ cs) = let e : nat_le (suc (length cs)) (length cs) ≡ false = grind (arith, nat_tests) in ap (λ b. if b then cut (suc (length cs)) cs else c ∷ cs) e
-
   cut_all : {ks : List Kind} {cs cs' : List Choice} → Choices ks cs cs' → Choices ks (cut (length ks) cs) (cut (plain ks) cs')
   cut_all {ks} {cs} {cs'} rel =
       subst (λ x. Choices ks x (cut (plain ks) cs')) (sym (ap (λ n. cut n cs) (length_kinds rel) ∙ cut_whole cs)) (subst (λ x. Choices ks cs x) (sym (ap (λ n. cut n cs') (plain_kinds rel) ∙ cut_whole cs')) rel)
@@ -179,24 +172,6 @@ module _ (keeps : ℕ → Bool) where
           by_test true e ih =
               ap (filter f') (filter_keep keeps c cs e) ∙ ap (λ b. cond b (c ∷ filter f' (filter keeps cs)) (filter f' (filter keeps cs))) (agree c e) ∙ ap (λ xs. cond (f c) (c ∷ xs) xs) ih ∙ ap (filter f) (sym (filter_keep keeps c cs e))
           by_test false e ih = ap (filter f') (filter_drop keeps c cs e) ∙ ih ∙ ap (filter f) (sym (filter_drop keeps c cs e))
-
-  itself : (h : ℕ) → (h == h) ≡ true
-  itself h = grind (arith, nat_tests)
-
-  less : (h n : ℕ) → h < n → (h == n) ≡ false
-  less h n le = grind (arith, nat_tests)
-
-  at_here : (h : ℕ) (c : Choice) (cs : List Choice) → h ≡ length cs → choice_at h (c ∷ cs) ≡ Some c
-  at_here h c cs e = ap (λ b. if b then Some c else choice_at h cs) (ap (λ n. h == n) (sym e) ∙ itself h)
-
-  at_newer : (h : ℕ) (c : Choice) (cs : List Choice) → h < length cs → choice_at h (c ∷ cs) ≡ choice_at h cs
-  at_newer h c cs le = ap (λ b. if b then Some c else choice_at h cs) (less h (length cs) le)
-
-  exit_here : (h : ℕ) (c : Choice) (cs : List Choice) → h ≡ length cs → exit_mark (Some h) (c ∷ cs) ≡ exited c ∷ cs
-  exit_here h c cs e = ap (λ b. if b then exited c ∷ cs else c ∷ exit_mark (Some h) cs) (ap (λ n. h == n) (sym e) ∙ itself h)
-
-  exit_newer : (h : ℕ) (c : Choice) (cs : List Choice) → h < length cs → exit_mark (Some h) (c ∷ cs) ≡ c ∷ exit_mark (Some h) cs
-  exit_newer h c cs le = ap (λ b. if b then exited c ∷ cs else c ∷ exit_mark (Some h) cs) (less h (length cs) le)
 
   -- the mark that the other run finds has the kept conditions of the one that is found here, and is exited where that is, or neither has one of them
   pub record Found (o o' : Option Choice) : Type 0 where

@@ -7,6 +7,7 @@ mod Ends
 mod BothWays
 pub mod Continuing
 mod MarkOwners
+mod Heights
 mod DropRelation
 mod DropSteps
 mod DropRuns
@@ -17,3 +18,16 @@ mod InstrumentedLooks
 mod ErasedInstrumented
 mod InstrumentedSteps
 mod InstrumentedRuns
+mod LeanerChoices
+mod LeanerGoals
+mod LeanerClauses
+mod LeanerConditions
+mod LeanerEffects
+mod LeanerNames
+mod LeanerSteps
+mod LeanerRuns
+mod LeanerStart
+mod LeanerOwn
+mod LeanerLower
+mod LeanerTries
+mod LeanerStates

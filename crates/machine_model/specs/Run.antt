@@ -1,5 +1,6 @@
 -- Whole runs.
 use Rattle.std.specs.Prelude.{◌≡◌, ℕ, zero, suc, ◌+◌, Bool, List, [], ◌∷◌, ◌++◌, Some}
+use Rattle.term_core.specs.declared.fixed.TheConstants.{NIL}
 use Rattle.term_core.specs.declared.terms.Term.{Term, out-Term}
 use Rattle.term_core.specs.Terms.{above}
 use Rattle.term_core.specs.Shapes.{parts_of}
@@ -13,9 +14,9 @@ use Rattle.machine_model.specs.State.{Does, Doing, State, Phase, Going, Over, Tr
 use Rattle.machine_model.specs.Tests.{Tests, every_condition, only_kept, kept_checks, told}
 use Rattle.machine_model.specs.Step.{step, quietly}
 
--- no clause's place
+-- no clause's place: line 0, of a file that does not matter, `[]`
 abbrev pub nowhere : Place
-nowhere = record { file = 0; line = 0 }
+nowhere = record { file = NIL; line = 0 }
 
 -- the query's call alone, with no choice and no call made
 abbrev pub start_of : ℕ → Term → State

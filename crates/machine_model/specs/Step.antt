@@ -2,6 +2,7 @@
 use Rattle.std.specs.Prelude.{ℕ, suc, ◌+◌, nat_le, Bool, true, false, not, List, [], ◌∷◌, ◌++◌, map, length, filter, slice_get, slice_index_or, if◌then◌else◌, Option, None, Some, ℤ, int_lt, int_le, Ok, Err}
 use Rattle.std.specs.Ordering.{int_eq}
 use Rattle.std.specs.Str.{byte}
+use Rattle.term_core.specs.declared.fixed.TheConstants.{NIL}
 use Rattle.term_core.specs.declared.terms.Term.{Term, out-Term}
 use Rattle.term_core.specs.declared.terms.Term as term
 use Rattle.term_core.specs.declared.terms.Term.TheOpen as layer
@@ -202,7 +203,7 @@ module _ (what : Tests) (program : Program) (bound : ℕ) where
   goal_step s Fail h place rest = quietly (going s s.choices Failed)
   goal_step s Cut h place rest = quietly (going s (cut h s.choices) (Doing rest))
   goal_step s (CallGoal p args) h place rest = call_step s p (pred_of program p) args rest
-  goal_step s (BuiltinGoal b args) h place rest = builtin_step s (effect program b (slice_index_or args 0 (term.Atom 0)) (slice_index_or args 1 (term.Atom 0))) h place rest
+  goal_step s (BuiltinGoal b args) h place rest = builtin_step s (effect program b (slice_index_or args 0 (term.Atom NIL)) (slice_index_or args 1 (term.Atom NIL))) h place rest
   goal_step s (Conj a b) h place rest = quietly (going s s.choices (Doing (frame_of (Does a h place ∷ Does b h place ∷ rest.items) rest)))
   goal_step s (Disj a b) h place rest =
       quietly (going s (Resume (frame_of (Does b h place ∷ rest.items) rest) ∷ s.choices) (Doing (frame_of (Does a h place ∷ rest.items) rest)))

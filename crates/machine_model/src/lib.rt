@@ -7,6 +7,7 @@ ghost use Rattle.prog_data.specs.declared.programs.Program.{Program};
 ghost use Rattle.machine_model.specs.State.{State};
 ghost use Rattle.machine_model.specs.Tests.{Tests};
 ghost use Rattle.machine_model.specs.Marks.{MarksOwned};
+ghost use Rattle.machine_model.specs.LeanerLaws.{LeanerTellsTheSame, LeanerStatesAreFound};
 ghost use Rattle.machine_model.specs.Laws.{OneRun, Ends, Erases, ToldErases, ErasesInstrumented, Drops, Suffices, Simulates, CallsBounded, LeftLaws};
 
 /// A run has one list of events, one number of tests and one ending.
@@ -62,4 +63,15 @@ pub fn simulation_law()
 /// The mark that an exit finds is one of a call of its predicate.
 pub fn marks_law()
     ensures { (what : Tests) (program : Program) → MarksOwned what program }
+{}
+
+/// A state that differs from another by the names of variables, by exits that test nothing and by clauses whose first
+/// equation clashes tells the same.
+pub fn leaner_law()
+    ensures { LeanerTellsTheSame }
+{}
+
+/// How such states are found.
+pub fn leaner_states_law()
+    ensures { LeanerStatesAreFound }
 {}

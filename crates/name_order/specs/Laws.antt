@@ -23,9 +23,11 @@ MembersBelong g = (n : ℕ) → HasMember g n ↔ ((t : Term) × Belongs g t n)
 abbrev pub BelowReflexive : Grammar → Type 0
 BelowReflexive g = (n : ℕ) → n < length g.rules → Below g n n
 
+-- what is below a name that is below a third is below the third
 abbrev pub BelowTransitive : Grammar → Type 0
 BelowTransitive g = (n m k : ℕ) → Below g n m → Below g m k → Below g n k
 
+-- names meet in both orders
 abbrev pub MeetsSymmetric : Grammar → Type 0
 MeetsSymmetric g = (n m : ℕ) → Meets g n m → Meets g m n
 

@@ -17,6 +17,3 @@ pub use laws::{
     fixpoints_law, meets_law, meets_symmetric_law, member_law, members_belong_law, order_law,
 };
 pub use relations::Relations;
-
-#[cfg(test)]
-mod tests;

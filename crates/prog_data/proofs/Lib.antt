@@ -1,6 +1,7 @@
 mod ArithmeticValues
 mod ControlTable
 pub mod GoalFolds
+pub mod GoalInstances
 pub mod Leaves
 pub mod MembershipLaws
 mod Persistence

@@ -2,6 +2,7 @@
 use Rattle.std.specs.Prelude.{ℕ, ◌==◌, Bool, true, false, ◌&&◌, List, [], ◌∷◌, map, length, slice_get, slice_index_or, Option, find, if◌then◌else◌}
 use Rattle.std.specs.List.{list_any}
 use Rattle.std.specs.Option.{option_map_or}
+use Rattle.term_core.specs.declared.fixed.TheConstants.{NIL}
 use Rattle.term_core.specs.declared.terms.Term.{Term, out-Term}
 use Rattle.term_core.specs.declared.terms.Term.TheOpen as layer
 use Rattle.term_core.specs.Terms.{instance}
@@ -57,9 +58,9 @@ without_exit_at body other = body
 abbrev pub without_exit : Goal → Goal
 without_exit body = without_exit_at body (out-Goal body)
 
--- a predicate with no clauses and no conditions
+-- a predicate with no clauses and no conditions; its names do not matter, and are `[]`
 abbrev pub no_pred : Pred
-no_pred = record { «module» = 0; name = 0; arity = 0; clauses = []; conds = []; call_checks = [] }
+no_pred = record { «module» = NIL; name = NIL; arity = 0; clauses = []; conds = []; call_checks = [] }
 
 -- the predicate with a number, or one with no clauses where it is not there
 abbrev pub pred_of : Program → ℕ → Pred

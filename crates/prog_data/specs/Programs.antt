@@ -2,6 +2,7 @@
 -- The headline does not rest on this file.
 use Rattle.std.specs.Prelude.{◌≡◌, ◌<◌, ◌≤◌, ℕ, ◌==◌, nat_lt, nat_eq, Bool, true, false, ◌&&◌, not, List, [], ◌∷◌, map, filter, flat_map, length, drop, slice_get, Some}
 use Rattle.std.specs.List.{list_any, list_all, AllByRecursion}
+use Rattle.term_core.specs.Shapes.{greatest_arity}
 use Rattle.term_core.specs.Standard.{standard}
 use Rattle.prog_data.specs.declared.conditions.Cond.{Cond}
 use Rattle.prog_data.specs.declared.grammars.Rule.{Rule}
@@ -57,7 +58,7 @@ conditions_of program p = map (λ cond. cond.id) (filter (λ cond. cond.pred == 
 pub record IsPred (program : Program) (p : ℕ) (pred : Pred) : Type 0 where
   pub «module» : is_name_of program pred.«module» ≡ true
   pub name : is_name_of program pred.name ≡ true
-  pub arity : pred.arity ≤ 255
+  pub arity : pred.arity ≤ greatest_arity
   pub clauses : list_all (is_clause_of program pred.arity) pred.clauses ≡ true
   pub conds : pred.conds ≡ conditions_of program p
   pub calls_first : list_all (λ c. not (is_calls (kind_of program c))) (drop 1 pred.conds) ≡ true

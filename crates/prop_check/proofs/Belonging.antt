@@ -1,4 +1,4 @@
--- A name's rules and their leaves admit the same terms.
+-- A name's rules and their leaves hold of the same terms.
 use Rattle.std.proofs.Common.{◌≡◌, ℕ, zero, suc, ◌+◌, ◌*◌, ◌<◌, ◌≤◌, Bool, true, false, ◌||◌, ◌&&◌, List, [], ◌∷◌, ◌++◌, length, map, get_or, refl, sym, ap, ◌∙◌, arith}
 use Rattle.std.specs.Prelude.{filter, flat_map}
 use Rattle.std.proofs.lemmas.Nat.{row_fits, mul-le}
@@ -8,7 +8,7 @@ use Rattle.term_core.specs.declared.terms.Term.{Term}
 use Rattle.prog_data.specs.declared.grammars.Rule.{Rule}
 use Rattle.prog_data.specs.declared.grammars.Rule.TheVariants.{Basic as BasicRule, Int, Atom, Node, Unit as UnitRule}
 use Rattle.prog_data.specs.declared.grammars.Grammar.{Grammar}
-use Rattle.prog_data.specs.Membership.{rules_of, is_leaf, unit_of, leaves_within, admits, admit_each, leaves}
+use Rattle.prog_data.specs.Membership.{rules_of, is_leaf, unit_of, leaves_within, admit_each, leaves}
 use Rattle.prop_check.specs.Belonging.{passes}
 
 any_append : {A : Type 0} (p : A → Bool) (xs ys : List A) → list_any p (xs ++ ys) ≡ (list_any p xs || list_any p ys)
@@ -31,33 +31,33 @@ unit_first a true c d e = sym (or_true a) ∙ ap (λ x. a || x) e
     or_true false = refl
 unit_first a false c d e = ap (λ x. a || x) e
 
-module _ (g : Grammar) (t : Term) where
-  none_further : (rs : List Rule) → list_any (admits g t) (filter is_leaf rs) ≡ list_any (passes zero g t) rs
+module _ (g : Grammar) (p : Rule → Bool) where
+  none_further : (rs : List Rule) → list_any p (filter is_leaf rs) ≡ list_any (passes p zero g) rs
   none_further [] = refl
   none_further (UnitRule m ∷ rs) = none_further rs
-  none_further (BasicRule b ∷ rs) = ap (λ x. admits g t (BasicRule b) || x) (none_further rs)
-  none_further (Int n ∷ rs) = ap (λ x. admits g t (Int n) || x) (none_further rs)
-  none_further (Atom a ∷ rs) = ap (λ x. admits g t (Atom a) || x) (none_further rs)
-  none_further (Node f ns ∷ rs) = ap (λ x. admits g t (Node f ns) || x) (none_further rs)
+  none_further (BasicRule b ∷ rs) = ap (λ x. p (BasicRule b) || x) (none_further rs)
+  none_further (Int n ∷ rs) = ap (λ x. p (Int n) || x) (none_further rs)
+  none_further (Atom a ∷ rs) = ap (λ x. p (Atom a) || x) (none_further rs)
+  none_further (Node f ns ∷ rs) = ap (λ x. p (Node f ns) || x) (none_further rs)
 
   module _ (k : ℕ) where
     abbrev further : List Rule → Bool
-    further rs = list_any (admits g t) (flat_map (leaves_within k g) (flat_map unit_of rs))
+    further rs = list_any p (flat_map (leaves_within k g) (flat_map unit_of rs))
 
-    step : (rs : List Rule) → (list_any (admits g t) (filter is_leaf rs) || further rs) ≡ list_any (passes (suc k) g t) rs
+    step : (rs : List Rule) → (list_any p (filter is_leaf rs) || further rs) ≡ list_any (passes p (suc k) g) rs
     step [] = refl
     step (UnitRule m ∷ rs) =
-        ap (λ x. list_any (admits g t) (filter is_leaf rs) || x) (any_append (admits g t) (leaves_within k g m) (flat_map (leaves_within k g) (flat_map unit_of rs)))
-        ∙ unit_first (list_any (admits g t) (leaves_within k g m)) (list_any (admits g t) (filter is_leaf rs)) (further rs) _ (step rs)
-    step (BasicRule b ∷ rs) = leaf_first (admits g t (BasicRule b)) (list_any (admits g t) (filter is_leaf rs)) (further rs) _ (step rs)
-    step (Int n ∷ rs) = leaf_first (admits g t (Int n)) (list_any (admits g t) (filter is_leaf rs)) (further rs) _ (step rs)
-    step (Atom a ∷ rs) = leaf_first (admits g t (Atom a)) (list_any (admits g t) (filter is_leaf rs)) (further rs) _ (step rs)
-    step (Node f ns ∷ rs) = leaf_first (admits g t (Node f ns)) (list_any (admits g t) (filter is_leaf rs)) (further rs) _ (step rs)
+        ap (λ x. list_any p (filter is_leaf rs) || x) (any_append p (leaves_within k g m) (flat_map (leaves_within k g) (flat_map unit_of rs)))
+        ∙ unit_first (list_any p (leaves_within k g m)) (list_any p (filter is_leaf rs)) (further rs) _ (step rs)
+    step (BasicRule b ∷ rs) = leaf_first (p (BasicRule b)) (list_any p (filter is_leaf rs)) (further rs) _ (step rs)
+    step (Int n ∷ rs) = leaf_first (p (Int n)) (list_any p (filter is_leaf rs)) (further rs) _ (step rs)
+    step (Atom a ∷ rs) = leaf_first (p (Atom a)) (list_any p (filter is_leaf rs)) (further rs) _ (step rs)
+    step (Node f ns ∷ rs) = leaf_first (p (Node f ns)) (list_any p (filter is_leaf rs)) (further rs) _ (step rs)
 
-  -- the leaves of a name admit what its rules do
-  pub rules_pass : (k n : ℕ) → list_any (admits g t) (leaves_within k g n) ≡ list_any (passes k g t) (rules_of g n)
+  -- a leaf of a name holds where one of its rules does
+  pub rules_pass : (k n : ℕ) → list_any p (leaves_within k g n) ≡ list_any (passes p k g) (rules_of g n)
   rules_pass zero n = none_further (rules_of g n)
-  rules_pass (suc k) n = any_append (admits g t) (filter is_leaf (rules_of g n)) _ ∙ step k (rules_of g n)
+  rules_pass (suc k) n = any_append p (filter is_leaf (rules_of g n)) _ ∙ step k (rules_of g n)
 
 module _ (g : Grammar) where
   -- other numbers of terms and names do not fit

@@ -1,2 +1,11 @@
 mod Absent
 mod Belonging
+mod CellLaws
+mod ChainLaws
+mod GatherLaws
+mod GroundLaws
+mod InRange
+mod OneOfLaws
+mod RoundLaws
+mod SetLaws
+mod ToldLaws

@@ -1,17 +1,20 @@
 // Whether a term belongs to a grammar name.
-ghost use Rattle.std.specs.Prelude.{◌≡◌, map};
+ghost use Rattle.std.specs.Prelude.{◌≡◌, ◌∷◌, [], true, map};
 ghost use Rattle.std.specs.List.{list_any};
 ghost use Rattle.term_core.specs.Terms.{is_ground};
 ghost use Rattle.prog_data.specs.Membership.{rules_of, leaves_within, admits, admit_each, belongs};
 ghost use Rattle.prog_data.specs.declared.grammars.Grammar.{Grammar as GrammarValue};
 ghost use Rattle.prog_data.specs.declared.grammars.Rule.TheVariants as rules;
 ghost use Rattle.prop_check.specs.Belonging.{passes};
+ghost use Rattle.prop_check.specs.Sets.{Fits};
 
-use prog_data::{Basic, Grammar, Rule};
+use crate::narrowing::narrow;
+use crate::sets::{has, put};
+use prog_data::{Basic, GND_TYPE, Grammar, Rule};
 use term_core::Term;
 
-// The rules of a name, none where it is not there.
-fn rules_of(grammar: &Grammar, name: u64) -> &[Rule]
+/// The rules of a name, none where it is not there.
+pub(crate) fn rules_of(grammar: &Grammar, name: u64) -> &[Rule]
     ensures { result.now ≡ rules_of grammar.now name }
 {
     match grammar.rules.get(name as usize) {
@@ -108,7 +111,7 @@ fn admits(grammar: &Grammar, term: &Term, rule: &Rule) -> bool
 // Whether a rule admits the term, by at most so many unit rules.
 #[cycle(membership)]
 fn passes(grammar: &Grammar, term: &Term, rule: &Rule, steps: usize) -> bool
-    ensures { result ≡ passes steps grammar.now term.now rule.now }
+    ensures { result ≡ passes (admits grammar.now term.now) steps grammar.now rule.now }
 {
     match rule {
         Rule::Unit(name) => {
@@ -136,9 +139,48 @@ fn belongs_within(grammar: &Grammar, term: &Term, name: u64, steps: usize) -> bo
     false
 }
 
+// Whether it is the rule gnd.
+fn is_gnd(rule: &Rule) -> bool
+    ensures { result ≡ true → rule.now ≡ Rule.Basic Basic.Gnd }
+{
+    match rule {
+        Rule::Basic(basic) => match basic {
+            Basic::Gnd => true,
+            Basic::Term | Basic::Int | Basic::Nnegint | Basic::Atm | Basic::Struct => false,
+        },
+        Rule::Int(_) | Rule::Atom(_) | Rule::Node(_, _) | Rule::Unit(_) => false,
+    }
+}
+
+// Whether the rule gnd is the only one.
+fn is_gnd_alone(rules: &[Rule]) -> bool
+    ensures { result ≡ true → rules.now ≡ Rule.Basic Basic.Gnd ∷ [] }
+{
+    match rules {
+        [rule] => is_gnd(rule),
+        _ => false,
+    }
+}
+
+// Whether names are few enough for sets, and gnd has its own rule alone: so it is in the grammar of each program.
+fn fits(grammar: &Grammar) -> bool
+    ensures { result ≡ true → Fits grammar.now }
+{
+    if grammar.rules.len() > 512 {
+        return false;
+    }
+    is_gnd_alone(rules_of(grammar, GND_TYPE))
+}
+
 /// Whether the term belongs to the name. No variable is bound.
 pub fn belongs(grammar: &Grammar, name: u64, term: &Term) -> bool
     ensures { result ≡ belongs grammar.now term.now name }
 {
-    belongs_within(grammar, term, name, grammar.rules.len())
+    if !fits(grammar) {
+        return belongs_within(grammar, term, name, grammar.rules.len());
+    }
+    let mut names = [0; 8];
+    put(&mut names, name);
+    narrow(grammar, &mut names, term);
+    has(&names, name)
 }

@@ -9,7 +9,7 @@ use Rattle.term_core.proofs.TermFolds.{fold-Var, fold-Int, fold-Atom, fold-Node,
 use Rattle.ciao_reader.specs.declared.sentences.Sentence.{Sentence}
 use Rattle.prog_data.specs.declared.grammars.Rule.{Rule}
 use Rattle.prog_data.specs.GrammarRange.{names_in}
-use Rattle.term_operands.proofs.OperandLaws.{none_part, some_part}
+use Rattle.term_core.proofs.OperandLaws.{none_part, some_part}
 use Rattle.regtype_grammar.specs.declared.literals.Literal.{Literal}
 use Rattle.regtype_grammar.specs.declared.meanings.Meaning.{Meaning}
 use Rattle.regtype_grammar.specs.declared.modules.RegType.{RegType}

@@ -7,12 +7,12 @@ use Rattle.term_core.specs.declared.terms.Term.TheVariants.{outs-Node}
 use Rattle.term_core.specs.declared.fixed.TheConstants.{NECK}
 use Rattle.ciao_reader.specs.declared.sentences.Sentence.{Sentence}
 use Rattle.term_core.specs.Shapes.{single_of, pair_of, split, with_mark}
-use Rattle.term_operands.proofs.OperandLaws.{none_part, some_part, single_is, of_single, unsplit, split_none, split_some}
+use Rattle.term_core.proofs.OperandLaws.{none_part, some_part, single_is, of_single, unsplit, split_none, split_some}
 use Rattle.regtype_grammar.specs.declared.literals.Literal.{Literal}
 use Rattle.regtype_grammar.specs.TypeClauses.{TypeClause, body_literals, is_regular, where_regular, with_argument, clause_of, IsTypeClause, ClausesAreWritten}
 
 module _ (name : ℕ) (s : Sentence) (c : TypeClause) where
-  computed_is_written : clause_of name s ≡ Some c → IsTypeClause name s c
+  pub computed_is_written : clause_of name s ≡ Some c → IsTypeClause name s c
   computed_is_written e = argued (single_of name (out-Term (split NECK s.term).0)) refl e
     where
       regular : (a : Term) → single_of name (out-Term (split NECK s.term).0) ≡ Some a → (ls : List Literal) → body_literals (split NECK s.term).1 ≡ Some ls → (b : Bool) → is_regular a ls ≡ b

@@ -10,7 +10,7 @@ use Rattle.term_core.specs.declared.terms.Term.TheOpen as layer
 use Rattle.term_core.specs.declared.terms.Term.TheVariants.{rolls-Var, rolls-Int, rolls-Atom, rolls-Node, outs-Var, outs-Int, outs-Atom, outs-Node}
 use Rattle.term_core.specs.Terms.{is_variable}
 use Rattle.term_core.specs.Shapes.{single_of, pair_of, split, with_mark}
-use Rattle.term_operands.proofs.OperandLaws.{none_part, some_part, eqb-eq, single_is, of_single, no_pair_of, unsplit, split_none, split_some}
+use Rattle.term_core.proofs.OperandLaws.{none_part, some_part, eqb-eq, single_is, of_single, no_pair_of, unsplit, split_none, split_some}
 use Rattle.ciao_reader.specs.declared.sentences.Sentence.{Sentence}
 use Rattle.regtype_grammar.specs.Declarations.{Declares, by_number, by_variable, IsDeclaration, numbered_name, declared_at, behind_regtype, behind_neck, declared_type, DeclarationsAreWritten}
 

@@ -4,10 +4,14 @@ mod DeclarationLaws
 mod EachLaws
 mod FaultLaws
 mod GrowingLaws
+mod LeastTerms
 mod ListLaws
 mod ListRange
 mod LiteralMeaning
 mod MadeLaws
+mod NamedRules
+mod OldNames
+mod OnceLaws
 mod PartLaws
 mod PartLoops
 mod PartMeaning

@@ -1,17 +1,22 @@
 -- The terms of the lists of an element.
-use Rattle.std.proofs.Common.{◌≡◌, ◌⊎◌, inl, inr, ℕ, zero, suc, ◌+◌, ◌<◌, ◌==◌, nat_lt, Bool, true, false, List, [], ◌∷◌, ◌++◌, length, refl, ap, sym, ◌∙◌, subst, arith}
-use Rattle.std.specs.Prelude.{cond, Contains, slice_index_or, Option, Some, None}
+use Rattle.std.proofs.Common.{◌≡◌, ◌⊎◌, inl, inr, ℕ, suc, ◌+◌, ◌==◌, nat_lt, Bool, true, false, List, [], ◌∷◌, ◌++◌, length, refl, ap, sym, ◌∙◌, subst, arith}
+use Rattle.std.specs.Prelude.{cond, slice_index_or, Option, Some, None}
+use Rattle.std.specs.List.{AllByRecursion}
 use Rattle.std.proofs.lemmas.Bool.{and_parts}
 use Rattle.term_core.specs.declared.fixed.TheConstants.{NIL, CELL}
-use Rattle.term_core.specs.declared.terms.Term.{Term}
+use Rattle.term_core.specs.declared.terms.Term.{Term, out-Term}
 use Rattle.term_core.specs.declared.terms.Term as term
-use Rattle.term_operands.proofs.OperandLaws.{none_part, some_part, eqb-eq}
+use Rattle.term_core.specs.declared.terms.Term.TheOpen as layer
+use Rattle.term_core.specs.declared.terms.Term.TheVariants.{outs-Var, outs-Int, outs-Atom, outs-Node}
+use Rattle.term_core.proofs.TermFolds.{ind_terms}
+use Rattle.term_core.proofs.OperandLaws.{none_part, some_part, eqb-eq}
 use Rattle.prog_data.specs.declared.grammars.Rule.{Rule}
 use Rattle.prog_data.specs.declared.grammars.Rule.TheVariants as rule
 use Rattle.prog_data.specs.declared.grammars.Grammar.{Grammar}
-use Rattle.prog_data.specs.Membership.{rules_of, Belongs, by_basic, by_int, by_atom, by_node, by_unit, BelongEach, none, more}
-use Rattle.regtype_grammar.specs.Lists.{most_names, list_rules, are_both, is_nil, is_cell, are_list_rules, list_from, found_list, Listed, with_list, found_or_added, list_of}
+use Rattle.prog_data.specs.Membership.{rules_of}
+use Rattle.regtype_grammar.specs.Lists.{most_names, list_rules, are_both, is_nil, is_cell, are_list_rules, list_from, found_list, Listed, with_lists_of, found_or_added, list_of}
 use Rattle.regtype_grammar.specs.ListTerms.{IsListOf, empty, cell, ListsAreLists}
+use Rattle.regtype_grammar.proofs.RuleMeaning.{SomeOf, EachHas, Admits, Steps, Has, belongs_steps}
 
 -- rules that pass the test are the rules of lists
 
@@ -65,9 +70,9 @@ last_rules (y ∷ ys) x = last_rules ys x
 own_rules : (g : Grammar) (element : ℕ) (l : Listed) → list_of g element ≡ Some l → rules_of l.grammar l.name ≡ list_rules element l.name
 own_rules g element l e = by (found_list g element) refl e
   where
-    added : (b : Bool) → cond b (Some (with_list g element)) None ≡ Some l → rules_of l.grammar l.name ≡ list_rules element l.name
+    added : (b : Bool) → cond b (Some (with_lists_of g element)) None ≡ Some l → rules_of l.grammar l.name ≡ list_rules element l.name
     added false e = absurd (none_part l e)
-    added true e = subst (λ k. rules_of k.grammar k.name ≡ list_rules element k.name) (some_part (with_list g element) l e) (last_rules g.rules (list_rules element (length g.rules)))
+    added true e = subst (λ k. rules_of k.grammar k.name ≡ list_rules element k.name) (some_part (with_lists_of g element) l e) (last_rules g.rules (list_rules element (length g.rules)))
 
     by : (o : Option ℕ) → found_list g element ≡ o → found_or_added g element o ≡ Some l → rules_of l.grammar l.name ≡ list_rules element l.name
     by None i e = added (nat_lt (length g.rules) most_names) e
@@ -77,69 +82,62 @@ own_rules g element l e = by (found_list g element) refl e
         subst (λ k. rules_of k.grammar k.name ≡ list_rules element k.name) (some_part _ l e) (ap (λ k. slice_index_or g.rules k []) (sym place) ∙ found.own)
 
 -- where a name has the rules of the lists of an element
-module _ (g : Grammar) (element name : ℕ) (own : rules_of g name ≡ list_rules element name) where
-  which : (n : ℕ) → n ≡ name → (r : Rule) → Contains (rules_of g n) r → (r ≡ rule.Atom NIL) ⊎ (r ≡ rule.Node CELL (element ∷ name ∷ []))
-  which n same r c = let d = subst (λ rs. Contains rs r) (ap (rules_of g) same ∙ own) c in at d.0 d.1 d.2
-    where
-      at : (k : ℕ) → k < 2 → slice_index_or (list_rules element name) k r ≡ r → (r ≡ rule.Atom NIL) ⊎ (r ≡ rule.Node CELL (element ∷ name ∷ []))
-      at zero lt i = inl (sym i)
-      at (suc zero) lt i = inr (sym i)
-      at (suc (suc k)) lt i = absurd (omega (arith, lt))
-
-  record IsCellOf (ts : List Term) : Type 0 where
+module _ (g : Grammar) (A B : ℕ → Term → Type 0) (steps : Steps g A B) (element name : ℕ) (own : rules_of g name ≡ list_rules element name) where
+  record IsCellOf (u : Term) : Type 0 where
     first : Term
     rest : Term
-    are : ts ≡ first ∷ rest ∷ []
-    item : Belongs g first element
-    others : IsListOf g element rest
+    is : u ≡ term.Node CELL (first ∷ rest ∷ [])
+    item : A element first
+    others : A name rest
 
-  no_rule : (n : ℕ) → n ≡ name → (r : Rule) → Contains (rules_of g n) r → (r ≡ rule.Atom NIL → ⊥) → (r ≡ rule.Node CELL (element ∷ name ∷ []) → ⊥) → ⊥
-  no_rule n same r c f h = by (which n same r c)
+  cell_of : (u : Term) (us : List Term) → u ≡ term.Node CELL us → EachHas A us (element ∷ name ∷ []) → IsCellOf u
+  cell_of u [] e h = absurd h
+  cell_of u (a ∷ []) e h = absurd h.1
+  cell_of u (a ∷ b ∷ []) e h = record { first = a; rest = b; is = e; item = h.0; others = h.1.0 }
+  cell_of u (a ∷ b ∷ c ∷ rest) e h = absurd h.1.1
+
+  outermost : (u : Term) → A name u → (u ≡ term.Atom NIL) ⊎ IsCellOf u
+  outermost u a = by (subst (SomeOf (λ r. Admits A r u)) own (steps.opened name u a))
     where
-      by : (r ≡ rule.Atom NIL) ⊎ (r ≡ rule.Node CELL (element ∷ name ∷ [])) → ⊥
-      by (inl e) = f e
-      by (inr e) = h e
+      by : SomeOf (λ r. Admits A r u) (list_rules element name) → (u ≡ term.Atom NIL) ⊎ IsCellOf u
+      by (inl e) = inl e
+      by (inr (inl c)) = inr (cell_of u c.0 c.1 c.2)
+      by (inr (inr impossible)) = absurd impossible
 
-  atom_is : (n : ℕ) → n ≡ name → (a : ℕ) → Contains (rules_of g n) (rule.Atom a) → a ≡ NIL
-  atom_is n same a c = by (which n same (rule.Atom a) c)
+  -- what is no compound is the empty list
+  abbrev IsInList : Term → Type 0
+  IsInList u = A name u → IsListOf (A element) u
+
+  alone : (u : Term) → (IsCellOf u → ⊥) → IsInList u
+  alone u no_cell a = by (outermost u a)
     where
-      by : (rule.Atom a ≡ rule.Atom NIL) ⊎ (rule.Atom a ≡ rule.Node CELL (element ∷ name ∷ [])) → a ≡ NIL
-      by (inl e) = cc
-      by (inr e) = cc
+      by : (u ≡ term.Atom NIL) ⊎ IsCellOf u → IsListOf (A element) u
+      by (inl e) = empty e
+      by (inr c) = absurd (no_cell c)
 
-  node_is : (n : ℕ) → n ≡ name → (f : ℕ) (ns : List ℕ) → Contains (rules_of g n) (rule.Node f ns) → (f ≡ CELL) × (ns ≡ element ∷ name ∷ [])
-  node_is n same f ns c = by (which n same (rule.Node f ns) c)
+  compound : (f : ℕ) (ts : List Term) → AllByRecursion IsInList ts → IsInList (term.Node f ts)
+  compound f ts h a = by (outermost (term.Node f ts) a)
     where
-      by : (rule.Node f ns ≡ rule.Atom NIL) ⊎ (rule.Node f ns ≡ rule.Node CELL (element ∷ name ∷ [])) → (f ≡ CELL) × (ns ≡ element ∷ name ∷ [])
-      by (inl e) = cc
-      by (inr e) = (cc, cc)
+      by : (term.Node f ts ≡ term.Atom NIL) ⊎ IsCellOf (term.Node f ts) → IsListOf (A element) (term.Node f ts)
+      by (inl e) = empty e
+      by (inr c) =
+          let same : ◌≡◌ {A = layer.Term-F Term} (layer.Node f ts) (layer.Node CELL (c.first ∷ c.rest ∷ [])) = sym (outs-Node f ts) ∙ ap out-Term c.is ∙ outs-Node CELL (c.first ∷ c.rest ∷ []) in
+          let parts : ts ≡ c.first ∷ c.rest ∷ [] = cc in
+          cell c.first c.rest c.is c.item ((subst (AllByRecursion IsInList) parts h).1.0 c.others)
 
-  mutual
-    pub in_list : {t : Term} {n : ℕ} → Belongs g t n → n ≡ name → IsListOf g element t
-    in_list {t} {n} (by_basic b c i) same = absurd (no_rule n same (rule.Basic b) c (λ e. cc) (λ e. cc))
-    in_list {t} {n} (by_int k c e) same = absurd (no_rule n same (rule.Int k) c (λ e. cc) (λ e. cc))
-    in_list {t} {n} (by_unit m c b) same = absurd (no_rule n same (rule.Unit m) c (λ e. cc) (λ e. cc))
-    in_list {t} {n} (by_atom a c e) same = empty (e ∙ ap term.Atom (atom_is n same a c))
-    in_list {t} {n} (by_node f ts ns c e each) same =
-        let is = node_is n same f ns c in
-        let parts = in_cell each is.1 in
-        cell parts.first parts.rest (e ∙ ap (λ h. term.Node h ts) is.0 ∙ ap (term.Node CELL) parts.are) parts.item parts.others
+  pub in_list : (u : Term) → A name u → IsListOf (A element) u
+  in_list = ind_terms IsInList
+      (λ v. alone (term.Var v) (λ c. let no : ◌≡◌ {A = layer.Term-F Term} (layer.Var v) (layer.Node CELL (c.first ∷ c.rest ∷ [])) = sym (outs-Var v) ∙ ap out-Term c.is ∙ outs-Node CELL (c.first ∷ c.rest ∷ []) in cc))
+      (λ k. alone (term.Int k) (λ c. let no : ◌≡◌ {A = layer.Term-F Term} (layer.Int k) (layer.Node CELL (c.first ∷ c.rest ∷ [])) = sym (outs-Int k) ∙ ap out-Term c.is ∙ outs-Node CELL (c.first ∷ c.rest ∷ []) in cc))
+      (λ a. alone (term.Atom a) (λ c. let no : ◌≡◌ {A = layer.Term-F Term} (layer.Atom a) (layer.Node CELL (c.first ∷ c.rest ∷ [])) = sym (outs-Atom a) ∙ ap out-Term c.is ∙ outs-Node CELL (c.first ∷ c.rest ∷ []) in cc))
+      compound
 
-    in_cell : {ts : List Term} {ns : List ℕ} → BelongEach g ts ns → ns ≡ element ∷ name ∷ [] → IsCellOf ts
-    in_cell none e = cc
-    in_cell (more a none) e = cc
-    in_cell (more {t} {ts} {n} {ns} a (more {t = u} {n = m} b none)) e =
-        let first : n ≡ element = cc in
-        let second : m ≡ name = cc in
-        record { first = t; rest = u; are = refl; item = subst (Belongs g t) first a; others = in_list b second }
-    in_cell (more a (more b (more c rest))) e = cc
-
-  pub from_list : {t : Term} → IsListOf g element t → Belongs g t name
-  from_list (empty e) = by_atom NIL (subst (λ rs. Contains rs (rule.Atom NIL)) (sym own) (0, omega arith, refl)) e
-  from_list (cell first rest e a b) =
-      by_node CELL (first ∷ rest ∷ []) (element ∷ name ∷ []) (subst (λ rs. Contains rs (rule.Node CELL (element ∷ name ∷ []))) (sym own) (1, omega arith, refl)) e (more a (more (from_list b) none))
+  pub from_list : {t : Term} → IsListOf (B element) t → B name t
+  from_list {t} (empty e) = steps.closed name t (subst (SomeOf (λ r. Admits B r t)) (sym own) (inl e))
+  from_list {t} (cell first rest e a b) = steps.closed name t (subst (SomeOf (λ r. Admits B r t)) (sym own) (inr (inl (first ∷ rest ∷ [], e, (a, (from_list b, tt))))))
 
 pub lists_are_lists : ListsAreLists
 lists_are_lists g element l e t =
     let own = own_rules g element l e in
-    (λ b. in_list l.grammar element l.name own b refl, from_list l.grammar element l.name own)
+    let steps = belongs_steps l.grammar in
+    (λ b. in_list l.grammar (Has l.grammar) (Has l.grammar) steps element l.name own t b, λ s. from_list l.grammar (Has l.grammar) (Has l.grammar) steps element l.name own s)

@@ -1,20 +1,22 @@
 -- A grammar in range stays so where the lists of one of its names are added.
-use Rattle.std.proofs.Common.{◌≡◌, ℕ, zero, suc, ◌+◌, ◌<◌, ◌≤◌, nat_lt, Bool, true, false, List, [], ◌∷◌, ◌++◌, take, length, refl, ap, ◌∙◌, subst, arith}
+use Rattle.std.proofs.Common.{◌≡◌, ℕ, zero, suc, ◌+◌, ◌<◌, ◌≤◌, nat_lt, Bool, true, false, List, [], ◌∷◌, ◌++◌, take, length, refl, ap, sym, ◌∙◌, subst, arith}
 use Rattle.std.specs.Prelude.{cond, Option, Some, None}
 use Rattle.std.specs.List.{list_all}
 use Rattle.std.proofs.lemmas.Bool.Decides.{nat_tests}
 use Rattle.std.proofs.lemmas.List.{length-append}
+use Rattle.term_core.specs.Lists.{IsPrefix}
 use Rattle.prog_data.specs.declared.grammars.Rule.{Rule}
 use Rattle.prog_data.specs.declared.grammars.Grammar.{Grammar}
 use Rattle.prog_data.specs.GrammarRange.{names_in, is_rule_of, IsGrammar}
-use Rattle.term_operands.proofs.OperandLaws.{none_part, some_part}
-use Rattle.regtype_grammar.specs.Lists.{most_names, list_rules, are_list_rules, list_from, found_list, Listed, with_list, found_or_added, list_of, ListsStayInRange}
+use Rattle.term_core.proofs.OperandLaws.{none_part, some_part}
+use Rattle.regtype_grammar.specs.Lists.{most_names, list_rules, are_list_rules, list_from, found_list, Listed, with_lists_of, found_or_added, list_of, ListsStayInRange}
 use Rattle.regtype_grammar.proofs.EachLaws.{each_append, test_each, each_more}
 use Rattle.regtype_grammar.proofs.BelowLaws.{IsRuleBelow, AreRulesBelow, AllRulesBelow}
 use Rattle.regtype_grammar.proofs.MadeLaws.{rules_test}
+use Rattle.regtype_grammar.proofs.PartLoops.{with_nothing}
 
 -- the rules of a grammar, by what is below its number of names
-rules_below : (size : ℕ) (rules : List (List Rule)) → list_all (list_all (is_rule_of size)) rules ≡ true → AllRulesBelow size rules
+pub rules_below : (size : ℕ) (rules : List (List Rule)) → list_all (list_all (is_rule_of size)) rules ≡ true → AllRulesBelow size rules
 rules_below size rules e = test_each (AreRulesBelow size) (list_all (is_rule_of size)) (λ rs i. test_each (IsRuleBelow size) (is_rule_of size) rule rs i) rules e
   where
     less : (n : ℕ) → nat_lt n size ≡ true → n < size
@@ -51,7 +53,7 @@ found_below element at (rs ∷ rest) name e = by (are_list_rules element at rs) 
     by false later e = let lt : name < suc at + length rest = later e in omega (arith, lt)
 
 module _ (g : Grammar) (element : ℕ) (h : IsGrammar g) (lt : element < length g.rules) where
-  added_in_range : length g.rules < 512 → IsGrammar (with_list g element).grammar
+  added_in_range : length g.rules < 512 → IsGrammar (with_lists_of g element).grammar
   added_in_range room =
       let size = length g.rules in
       let longer : length (g.rules ++ list_rules element size ∷ []) ≡ suc size = length-append g.rules (list_rules element size ∷ []) ∙ one size in
@@ -71,13 +73,13 @@ module _ (g : Grammar) (element : ℕ) (h : IsGrammar g) (lt : element < length 
   listed_in_range : (l : Listed) → list_of g element ≡ Some l → IsGrammar l.grammar × (l.name < length l.grammar.rules)
   listed_in_range l e = by (found_list g element) refl e
     where
-      added : (b : Bool) → nat_lt (length g.rules) most_names ≡ b → cond b (Some (with_list g element)) None ≡ Some l → IsGrammar l.grammar × (l.name < length l.grammar.rules)
+      added : (b : Bool) → nat_lt (length g.rules) most_names ≡ b → cond b (Some (with_lists_of g element)) None ≡ Some l → IsGrammar l.grammar × (l.name < length l.grammar.rules)
       added false i e = absurd (none_part l e)
       added true i e =
           let room : length g.rules < 512 = grind (arith, nat_tests, i) in
           let longer : length (g.rules ++ list_rules element (length g.rules) ∷ []) ≡ length g.rules + 1 = length-append g.rules (list_rules element (length g.rules) ∷ []) in
           let last : length g.rules < length (g.rules ++ list_rules element (length g.rules) ∷ []) = omega (arith, longer) in
-          subst (λ k. IsGrammar k.grammar × (k.name < length k.grammar.rules)) (some_part (with_list g element) l e) (added_in_range room, last)
+          subst (λ k. IsGrammar k.grammar × (k.name < length k.grammar.rules)) (some_part (with_lists_of g element) l e) (added_in_range room, last)
 
       by : (o : Option ℕ) → found_list g element ≡ o → found_or_added g element o ≡ Some l → IsGrammar l.grammar × (l.name < length l.grammar.rules)
       by None i e = added (nat_lt (length g.rules) most_names) refl e
@@ -88,3 +90,18 @@ module _ (g : Grammar) (element : ℕ) (h : IsGrammar g) (lt : element < length 
 
 pub lists_stay : (g : Grammar) (element : ℕ) (new : Grammar) (name : ℕ) → list_of g element ≡ Some (record { grammar = new; name = name }) → ListsStayInRange g element new name
 lists_stay g element new name e h lt = listed_in_range g element h lt (record { grammar = new; name = name }) e
+
+-- the rules of the other names stay
+pub lists_front : (g : Grammar) (element : ℕ) (new : Grammar) (name : ℕ) → list_of g element ≡ Some (record { grammar = new; name = name }) → IsPrefix g.rules new.rules
+lists_front g element new name e = by (found_list g element) e
+  where
+    listed : Listed
+    listed = record { grammar = new; name = name }
+
+    added : (b : Bool) → cond b (Some (with_lists_of g element)) None ≡ Some listed → IsPrefix g.rules new.rules
+    added false e = absurd (none_part listed e)
+    added true e = (list_rules element (length g.rules) ∷ [], ap (λ k. k.grammar.rules) (some_part (with_lists_of g element) listed e))
+
+    by : (o : Option ℕ) → found_or_added g element o ≡ Some listed → IsPrefix g.rules new.rules
+    by None e = added (nat_lt (length g.rules) most_names) e
+    by (Some at) e = ([], sym (with_nothing g.rules) ∙ ap (λ k. k.grammar.rules) (some_part _ listed e))

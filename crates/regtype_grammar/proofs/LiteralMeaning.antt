@@ -1,5 +1,5 @@
 -- A term belongs to the type of a variable exactly where it may stand in the variable's place.
-use Rattle.std.proofs.Common.{◌≡◌, ◌↔◌, ℕ, ◌+◌, ◌==◌, Bool, true, false, List, [], ◌∷◌, ◌++◌, length, refl, ap, sym, ◌∙◌, subst}
+use Rattle.std.proofs.Common.{◌≡◌, ℕ, ◌+◌, ◌==◌, Bool, true, false, List, [], ◌∷◌, ◌++◌, length, refl, ap, sym, ◌∙◌, subst}
 use Rattle.std.specs.Prelude.{cond, Option, Some, None}
 use Rattle.std.specs.List.{AllByRecursion}
 use Rattle.std.proofs.lemmas.List.{append_assoc}
@@ -9,8 +9,8 @@ use Rattle.prog_data.specs.declared.grammars.Basic.TheVariants as basic
 use Rattle.prog_data.specs.declared.grammars.Rule.{Rule}
 use Rattle.prog_data.specs.declared.grammars.Rule.TheVariants as rule
 use Rattle.prog_data.specs.declared.grammars.Grammar.{Grammar}
-use Rattle.prog_data.specs.Membership.{rules_of, Belongs}
-use Rattle.term_operands.proofs.OperandLaws.{none_part, some_part, eqb-eq}
+use Rattle.prog_data.specs.Membership.{rules_of}
+use Rattle.term_core.proofs.OperandLaws.{none_part, some_part, eqb-eq}
 use Rattle.regtype_grammar.specs.declared.literals.Literal.{Literal}
 use Rattle.regtype_grammar.specs.declared.meanings.Meaning.{Meaning}
 use Rattle.regtype_grammar.specs.declared.numbering.KnownList.{KnownList}
@@ -18,11 +18,11 @@ use Rattle.regtype_grammar.specs.declared.numbering.Bound.{Bound}
 use Rattle.regtype_grammar.specs.declared.numbering.Listing.{Listing}
 use Rattle.regtype_grammar.specs.Lists.{list_rules}
 use Rattle.regtype_grammar.specs.Grammars.{number, type_of, list_among, bound, with_list, with_literal, with_literals, no_types}
-use Rattle.regtype_grammar.specs.TypeTerms.{IsOfType, IsAsSaid, Either, MayStand}
+use Rattle.regtype_grammar.specs.TypeTerms.{IsOfType, IsAsSaid, Chosen, MayStand}
 use Rattle.regtype_grammar.proofs.EachLaws.{each_append}
 use Rattle.regtype_grammar.proofs.ListLaws.{in_list, from_list}
 use Rattle.regtype_grammar.proofs.PartLoops.{with_nothing}
-use Rattle.regtype_grammar.proofs.RuleMeaning.{one_rule, Stand, stand_parts}
+use Rattle.regtype_grammar.proofs.RuleMeaning.{Steps, one_rule, Stand, stand_parts}
 
 -- what literals add comes behind what was added
 pub record Longer (xs ys : List (List Rule)) : Type 0 where
@@ -49,7 +49,7 @@ module _ (next : ℕ) (means : ℕ → Meaning) where
   literals_longer l [] = record { further = []; is = with_nothing l.added }
   literals_longer l (x ∷ xs) = longer_trans l.added (with_literal next means l x).added (with_literals next means l (x ∷ xs)).added (literal_longer l x) (literals_longer (with_literal next means l x) xs)
 
-module _ (g : Grammar) (any : rules_of g TERM_TYPE ≡ rule.Basic basic.Term ∷ []) where
+module _ (g : Grammar) where
   -- known lists have the rules of lists
   abbrev pub AreLists : List KnownList → Type 0
   AreLists ks = AllByRecursion (λ k. rules_of g k.name ≡ list_rules k.element k.name) ks
@@ -62,22 +62,27 @@ module _ (g : Grammar) (any : rules_of g TERM_TYPE ≡ rule.Basic basic.Term ∷
       by true i rest e = subst (λ n. rules_of g n ≡ list_rules element n) (some_part k.name name e) (h.0 ∙ ap (λ m. list_rules m k.name) (eqb-eq k.element element i))
       by false i rest e = rest e
 
+-- where each term of A comes by a rule, and each that comes by a rule is one of B
+module _ (g : Grammar) (A B : ℕ → Term → Type 0) (steps : Steps g A B) (any : rules_of g TERM_TYPE ≡ rule.Basic basic.Term ∷ []) where
   module _ (means : ℕ → Meaning) where
     -- each variable's type has the terms that its literal says
+    abbrev pub Says : ℕ → Literal → Type 0
+    Says name x = (u : Term) → (A name u → IsAsSaid A means x u) × (IsAsSaid B means x u → B name u)
+
     abbrev pub BoundsMean : List Bound → List Literal → Type 0
     BoundsMean [] [] = Unit {0}
     BoundsMean [] (x ∷ xs) = ⊥
     BoundsMean (b ∷ bs) [] = ⊥
-    BoundsMean (b ∷ bs) (x ∷ xs) = (b.variable ≡ x.variable) × (((u : Term) → Belongs g u b.name ↔ IsAsSaid g means x u) × BoundsMean bs xs)
+    BoundsMean (b ∷ bs) (x ∷ xs) = (b.variable ≡ x.variable) × (Says b.name x × BoundsMean bs xs)
 
-    bounds_more : (bs : List Bound) (xs : List Literal) (b : Bound) (x : Literal) → BoundsMean bs xs → b.variable ≡ x.variable → ((u : Term) → Belongs g u b.name ↔ IsAsSaid g means x u) → BoundsMean (bs ++ b ∷ []) (xs ++ x ∷ [])
+    bounds_more : (bs : List Bound) (xs : List Literal) (b : Bound) (x : Literal) → BoundsMean bs xs → b.variable ≡ x.variable → Says b.name x → BoundsMean (bs ++ b ∷ []) (xs ++ x ∷ [])
     bounds_more [] [] b x h same says = (same, (says, tt))
     bounds_more [] (y ∷ ys) b x h same says = absurd h
     bounds_more (c ∷ cs) [] b x h same says = absurd h
     bounds_more (c ∷ cs) (y ∷ ys) b x h same says = (h.0, (h.1.0, bounds_more cs ys b x h.1.1 same says))
 
-    pub variable_means : (bs : List Bound) (xs : List Literal) → BoundsMean bs xs → (v : ℕ) (u : Term) → Belongs g u (type_of bs v) ↔ MayStand g means xs v u
-    variable_means [] [] h v u = (λ b. tt, λ s. (one_rule g TERM_TYPE (rule.Basic basic.Term) any u).1 tt)
+    pub variable_means : (bs : List Bound) (xs : List Literal) → BoundsMean bs xs → (v : ℕ) (u : Term) → (A (type_of bs v) u → MayStand A means xs v u) × (MayStand B means xs v u → B (type_of bs v) u)
+    variable_means [] [] h v u = (λ b. tt, λ s. (one_rule g A B steps TERM_TYPE (rule.Basic basic.Term) any u).1 tt)
     variable_means [] (y ∷ ys) h v u = absurd h
     variable_means (c ∷ cs) [] h v u = absurd h
     variable_means (c ∷ cs) (y ∷ ys) h v u = by (c.variable == v) (y.variable == v) (ap (λ w. w == v) h.0) (variable_means cs ys h.1.1 v u)
@@ -85,28 +90,33 @@ module _ (g : Grammar) (any : rules_of g TERM_TYPE ≡ rule.Basic basic.Term ∷
         yes_no : true ≡ false → ⊥
         yes_no q = cc
 
-        by : (p q : Bool) → p ≡ q → Belongs g u (type_of cs v) ↔ MayStand g means ys v u → Belongs g u (cond p c.name (type_of cs v)) ↔ Either q (IsAsSaid g means y u) (MayStand g means ys v u)
+        by : (p q : Bool) → p ≡ q → (A (type_of cs v) u → MayStand A means ys v u) × (MayStand B means ys v u → B (type_of cs v) u)
+            → (A (cond p c.name (type_of cs v)) u → Chosen q (IsAsSaid A means y u) (MayStand A means ys v u)) × (Chosen q (IsAsSaid B means y u) (MayStand B means ys v u) → B (cond p c.name (type_of cs v)) u)
         by true true e rest = h.1.0 u
         by false false e rest = rest
         by true false e rest = absurd (yes_no e)
         by false true e rest = absurd (yes_no (sym e))
 
     pub record ListingMeans (l : Listing) (said : List Literal) : Type 0 where
-      pub known : AreLists l.known
+      pub known : AreLists g l.known
       pub types : BoundsMean l.types said
 
-    -- a variable of a list, whose name has the rules of the lists of the element
-    list_says : (element name : ℕ) → rules_of g name ≡ list_rules element name → (u : Term) → Belongs g u name ↔ IsOfType g element true u
-    list_says element name own u = (λ b. in_list g element name own b refl, λ s. from_list g element name own s)
+    -- a variable's type, by the kind of its literal
+    abbrev SaysType : ℕ → ℕ → Bool → Type 0
+    SaysType name type listed = (u : Term) → (A name u → IsOfType A type listed u) × (IsOfType B type listed u → B name u)
 
-    as_said : (x : Literal) (b : Bool) → x.in_list ≡ b → (name : ℕ) → ((u : Term) → Belongs g u name ↔ IsOfType g (number (means x.name)) b u) → (u : Term) → Belongs g u name ↔ IsAsSaid g means x u
-    as_said x b i name says u = subst (λ t. Belongs g u name ↔ IsOfType g (number (means x.name)) t u) (sym i) (says u)
+    -- a variable of a list, whose name has the rules of the lists of the element
+    list_says : (element name : ℕ) → rules_of g name ≡ list_rules element name → SaysType name element true
+    list_says element name own u = (λ b. in_list g A B steps element name own u b, λ s. from_list g A B steps element name own s)
+
+    as_said : (x : Literal) (b : Bool) → x.in_list ≡ b → (name : ℕ) → SaysType name (number (means x.name)) b → Says name x
+    as_said x b i name says u = subst (λ t. (A name u → IsOfType A (number (means x.name)) t u) × (IsOfType B (number (means x.name)) t u → B name u)) (sym i) (says u)
 
     list_means : (next : ℕ) (l : Listing) (said : List Literal) (x : Literal) → x.in_list ≡ true → (o : Option ℕ) → list_among l.known (number (means x.name)) ≡ o → ListingMeans l said
         → Stand g next (with_list next l x.variable (number (means x.name)) o).added → ListingMeans (with_list next l x.variable (number (means x.name)) o) (said ++ x ∷ [])
     list_means next l said x i (Some name) e h stand = record {
       known = h.known;
-      types = bounds_more l.types said (bound x.variable name) x h.types refl (as_said x true i name (list_says (number (means x.name)) name (among_lists l.known (number (means x.name)) name h.known e)));
+      types = bounds_more l.types said (bound x.variable name) x h.types refl (as_said x true i name (list_says (number (means x.name)) name (among_lists g l.known (number (means x.name)) name h.known e)));
     }
     list_means next l said x i None e h stand =
         let element = number (means x.name) in
@@ -137,5 +147,5 @@ module _ (g : Grammar) (any : rules_of g TERM_TYPE ≡ rule.Basic basic.Term ∷
         subst (ListingMeans (with_literals next means after xs)) (append_assoc said (x ∷ []) xs) (literals_mean next after (said ++ x ∷ []) xs (literal_means next l said x h front) stand)
 
     -- before the literals of a clause nothing is said
-    pub clause_literals : (next : ℕ) (known : List KnownList) (ls : List Literal) → AreLists known → Stand g next (with_literals next means (no_types known) ls).added → ListingMeans (with_literals next means (no_types known) ls) ls
+    pub clause_literals : (next : ℕ) (known : List KnownList) (ls : List Literal) → AreLists g known → Stand g next (with_literals next means (no_types known) ls).added → ListingMeans (with_literals next means (no_types known) ls) ls
     clause_literals next known ls h stand = literals_mean next (no_types known) [] ls (record { known = h; types = tt }) stand

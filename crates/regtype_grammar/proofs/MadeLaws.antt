@@ -9,16 +9,16 @@ use Rattle.prog_data.specs.declared.grammars.Grammar.{Grammar}
 use Rattle.prog_data.specs.declared.grammars.Seen.{Seen}
 use Rattle.prog_data.specs.BasicNames.{basic_grammar}
 use Rattle.prog_data.specs.GrammarRange.{names_in, is_rule_of, IsGrammar}
-use Rattle.term_operands.proofs.OperandLaws.{none_part, some_part}
+use Rattle.term_core.proofs.OperandLaws.{none_part, some_part}
 use Rattle.regtype_grammar.specs.declared.meanings.Meaning.{Meaning}
 use Rattle.regtype_grammar.specs.declared.modules.RegType.{RegType}
 use Rattle.regtype_grammar.specs.declared.modules.SeenType.{SeenType}
 use Rattle.regtype_grammar.specs.declared.modules.TypeModule.{TypeModule}
 use Rattle.regtype_grammar.specs.declared.grammars.Making.{Making}
 use Rattle.regtype_grammar.specs.Lists.{most_names}
-use Rattle.regtype_grammar.specs.TypeNames.{count_types, first_names, number_of, numbered, meaning, are_seen}
+use Rattle.regtype_grammar.specs.TypeNames.{count_types, first_names, number_of, numbered, seen_types, AreKindsBelow, meaning, are_seen}
 use Rattle.regtype_grammar.specs.Grammars.{number, with_clauses, with_type, with_types, with_module, with_modules, nothing_made, made, made_rules, grammar_of, AllFit}
-use Rattle.regtype_grammar.proofs.EachLaws.{each_append, each_test, each_more}
+use Rattle.regtype_grammar.proofs.EachLaws.{each_append, each_map, each_test, each_more}
 use Rattle.regtype_grammar.proofs.SeenLaws.{numbers_below, meant_below}
 use Rattle.regtype_grammar.proofs.BelowLaws.{IsRuleBelow, AreRulesBelow, AllRulesBelow, modules_made}
 
@@ -66,6 +66,24 @@ few n le = let test : nat_le n 512 ≡ true = grind (arith, nat_tests, le) in te
 
 abbrev with_rules : List (List Rule) → Grammar
 with_rules rules = record { rules = rules }
+
+abbrev pub made_grammar : List TypeModule → Grammar
+made_grammar modules = record { rules = made_rules (made modules) }
+
+-- the grammar that modules have is the one that is made of them
+pub by_made : (modules : List TypeModule) (g : Grammar) → grammar_of modules ≡ Some g → made_grammar modules ≡ g
+by_made modules g e = by (nat_le (length (made_rules (made modules))) most_names) e
+  where
+    by : (b : Bool) → cond b (Some (made_grammar modules)) None ≡ Some g → made_grammar modules ≡ g
+    by false e = absurd (none_part g e)
+    by true e = some_part (made_grammar modules) g e
+
+-- each type has a name
+pub types_named : (modules : List TypeModule) (g : Grammar) → grammar_of modules ≡ Some g → 10 + count_types modules ≤ length g.rules
+types_named modules g e =
+    let l = made_length modules in
+    let le : 10 + count_types modules ≤ length (made_rules (made modules)) = omega (arith, l) in
+    subst (λ h. 10 + count_types modules ≤ length h.rules) (by_made modules g e) le
 
 none_by : (modules : List TypeModule) → 512 < length (made_rules (made modules)) → None ≡ grammar_of modules
 none_by modules lt = ap (λ b. cond b (Some (with_rules (made_rules (made modules)))) None) (sym (many (length (made_rules (made modules))) lt))
@@ -138,7 +156,7 @@ module _ (modules : List TypeModule) (seen : are_seen modules ≡ true) where
   abbrev IsMeantBelow : ℕ → TypeModule → Type 0
   IsMeantBelow n one = (name : ℕ) → number (meaning (numbered (first_names modules) one.visible) name) < n
 
-  meant_each : (size : ℕ) → 10 ≤ size → 10 + count_types modules ≤ size → AllByRecursion (IsMeantBelow size) modules
+  pub meant_each : (size : ℕ) → 10 ≤ size → 10 + count_types modules ≤ size → AllByRecursion (IsMeantBelow size) modules
   meant_each size ten types = each_more (AreSeenBelow (10 + count_types modules)) (IsMeantBelow size) meant modules (numbers_below modules seen)
     where
       below : (s : SeenType) → number_of (first_names modules) s < 10 + count_types modules → number_of (first_names modules) s < size
@@ -168,3 +186,14 @@ module _ (modules : List TypeModule) (seen : are_seen modules ≡ true) where
       by : (b : Bool) → nat_le (length (made_rules (made modules))) most_names ≡ b → cond b (Some (with_rules (made_rules (made modules)))) None ≡ Some g → IsGrammar g
       by false i e = absurd (none_part g e)
       by true i e = subst IsGrammar (some_part (with_rules (made_rules (made modules))) g e) (made_in_range (at_most (length (made_rules (made modules))) i))
+
+  -- the types that are seen have names of the grammar
+  pub seen_below : (g : Grammar) → grammar_of modules ≡ Some g → AllByRecursion (AreKindsBelow (length g.rules)) (seen_types modules)
+  seen_below g e = each_map (AreKindsBelow (length g.rules)) (λ m. numbered (first_names modules) m.visible) modules (each_more (AreSeenBelow (10 + count_types modules)) (λ m. AreKindsBelow (length g.rules) (numbered (first_names modules) m.visible)) kinds modules (numbers_below modules seen))
+    where
+      below : (s : SeenType) → number_of (first_names modules) s < 10 + count_types modules → number_of (first_names modules) s < length g.rules
+      below s lt = let le : 10 + count_types modules ≤ length g.rules = types_named modules g e in omega (arith, lt, le)
+
+      kinds : (m : TypeModule) → AreSeenBelow (10 + count_types modules) m → AreKindsBelow (length g.rules) (numbered (first_names modules) m.visible)
+      kinds m h =
+          each_map (λ s. s.kind < length g.rules) (λ s. record { name = s.name; kind = number_of (first_names modules) s }) m.visible (each_more (λ s. number_of (first_names modules) s < 10 + count_types modules) (λ s. number_of (first_names modules) s < length g.rules) below m.visible h)

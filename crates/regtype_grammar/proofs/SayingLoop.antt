@@ -2,7 +2,7 @@
 use Rattle.std.proofs.Common.{◌≡◌, List, [], ◌∷◌, ◌++◌, ap, sym, ◌∙◌}
 use Rattle.std.specs.Prelude.{Option, Some, None, option_map}
 use Rattle.std.proofs.lemmas.List.{append_assoc}
-use Rattle.term_operands.specs.Operands.{before_all}
+use Rattle.term_core.specs.Operands.{before_all}
 use Rattle.regtype_grammar.proofs.PartLoops.{with_nothing}
 
 module _ {A : Type 0} where

@@ -27,7 +27,7 @@ use Rattle.regtype_grammar.specs.TermRules.{names_needed, Part, part_of}
 
 -- the types of variables
 
--- the grammar name of what a name means
+-- the grammar name of what a name means; modules without a fault have no literal whose name means nothing or several types
 abbrev pub number : Meaning → ℕ
 number (One n) = n
 number Unknown = TERM_TYPE
@@ -38,7 +38,7 @@ abbrev pub type_of : List Bound → ℕ → ℕ
 type_of [] v = TERM_TYPE
 type_of (b ∷ bs) v = if b.variable == v then b.name else type_of bs v
 
--- the lists of an element among those that are known
+-- the lists of an element among those that are known: those of any term, and those that were added before. A type with the same rules is not among them
 abbrev pub list_among : List KnownList → ℕ → Option ℕ
 list_among [] element = None
 list_among (k ∷ ks) element = if k.element == element then Some k.name else list_among ks element
@@ -65,6 +65,7 @@ with_literal next means l literal =
     if literal.in_list then with_list next l literal.variable type (list_among l.known type)
     else record { known = l.known; added = l.added; types = l.types ++ bound literal.variable type ∷ [] }
 
+-- with literals, in their order
 abbrev pub with_literals : ℕ → (ℕ → Meaning) → Listing → List Literal → Listing
 with_literals next means l [] = l
 with_literals next means l (literal ∷ rest) = with_literals next means (with_literal next means l literal) rest
@@ -83,18 +84,21 @@ ruled next r part l = record {
   further = r.further ++ (map (λ rule. rule ∷ []) (part.inner next) ++ l.added);
 }
 
+-- the same by the argument of the clause's head, and the types of its variables
 abbrev pub with_rule_by : ℕ → Ruling → Term → Listing → Ruling
 with_rule_by next r argument l = ruled next r (part_of (type_of l.types) argument) l
 
+-- the same by the clause: its argument itself needs no further name, so the names of lists begin behind one less than it would need as a part
 abbrev pub with_rule : ℕ → (ℕ → Meaning) → Ruling → TypeClause → Ruling
 with_rule next means r clause =
     with_rule_by next r clause.argument (with_literals (next + (names_needed clause.argument - 1)) means (no_types r.known) clause.literals)
 
--- `first` is the name behind all types
+-- with the rule of a sentence that is a clause; `first` is the name behind all types
 abbrev pub with_clause : ℕ → (ℕ → Meaning) → Ruling → Option TypeClause → Ruling
 with_clause first means r None = r
 with_clause first means r (Some clause) = with_rule (length r.further + first) means r clause
 
+-- with the rules of the clauses of the type of this name, in their order
 abbrev pub with_clauses : ℕ → (ℕ → Meaning) → ℕ → Ruling → List Sentence → Ruling
 with_clauses first means name r [] = r
 with_clauses first means name r (s ∷ ss) = with_clauses first means name (with_clause first means r (clause_of name s)) ss
@@ -111,13 +115,15 @@ FitsLists n l whole (Some r) = (r ≡ whole) × (length l.added + n ≤ 512)
 
 -- types
 
--- a type's rules are one for each of its clauses
+-- with the rules of a type, one for each of its clauses
 abbrev pub with_own : Making → Ruling → Making
 with_own m r = record { own = m.own ++ r.rules ∷ []; known = r.known; further = r.further }
 
+-- with a type: the rules of its clauses, and the further names that they need
 abbrev pub with_type : ℕ → (ℕ → Meaning) → Making → RegType → Making
 with_type first means m t = with_own m (with_clauses first means t.name (record { rules = []; known = m.known; further = m.further }) t.clauses)
 
+-- with types, in their order
 abbrev pub with_types : ℕ → (ℕ → Meaning) → Making → List RegType → Making
 with_types first means m [] = m
 with_types first means m (t ∷ ts) = with_types first means (with_type first means m t) ts
@@ -126,6 +132,7 @@ with_types first means m (t ∷ ts) = with_types first means (with_type first me
 abbrev pub with_module : ℕ → List ℕ → Making → TypeModule → Making
 with_module first firsts m one = with_types first (meaning (numbered firsts one.visible)) m one.types
 
+-- with the types of modules, in their order
 abbrev pub with_modules : ℕ → List ℕ → Making → List TypeModule → Making
 with_modules first firsts m [] = m
 with_modules first firsts m (one ∷ rest) = with_modules first firsts (with_module first firsts m one) rest
@@ -135,10 +142,11 @@ abbrev pub AllFit : ℕ → Making → Option Making → Type 0
 AllFit first whole None = 512 < length whole.further + first
 AllFit first whole (Some m) = (m ≡ whole) × (length m.further + first ≤ 512)
 
--- before the first type the lists of any term are known alone
+-- before the first type: there are no rules, and the lists of any term alone are known
 abbrev pub nothing_made : Making
 nothing_made = record { own = []; known = record { element = TERM_TYPE; name = LIST_TYPE } ∷ []; further = [] }
 
+-- with the types of all modules; the further names begin behind all types
 abbrev pub made : List TypeModule → Making
 made modules = with_modules (count_types modules + 10) (first_names modules) nothing_made modules
 
@@ -146,6 +154,7 @@ made modules = with_modules (count_types modules + 10) (first_names modules) not
 abbrev pub made_rules : Making → List (List Rule)
 made_rules m = basic_grammar.rules ++ m.own ++ m.further
 
+-- the grammar of so many rules, none where they are those of a 513th name
 abbrev pub grammar_by : List (List Rule) → Option Grammar
 grammar_by rules = if nat_le (length rules) most_names then Some (record { rules = rules }) else None
 

@@ -7,3 +7,4 @@ pub mod TypeFaults
 pub mod TermRules
 pub mod Grammars
 pub mod TypeTerms
+pub mod RuleNames

@@ -46,21 +46,21 @@ list_from element name (rules ∷ rest) = if are_list_rules element name rules t
 abbrev pub found_list : Grammar → ℕ → Option ℕ
 found_list g element = list_from element 0 g.rules
 
--- a name with a grammar
+-- a grammar, and the name of the lists that were asked for
 pub record Listed : Type 0 where
   pub grammar : Grammar
   pub name : ℕ
 
 -- with the lists of an element at the end
-abbrev pub with_list : Grammar → ℕ → Listed
-with_list g element = record { grammar = record { rules = g.rules ++ list_rules element (length g.rules) ∷ [] }; name = length g.rules }
+abbrev pub with_lists_of : Grammar → ℕ → Listed
+with_lists_of g element = record { grammar = record { rules = g.rules ++ list_rules element (length g.rules) ∷ [] }; name = length g.rules }
 
 -- the name that was found, or one that is added, where there is room for it
 abbrev pub found_or_added : Grammar → ℕ → Option ℕ → Option Listed
 found_or_added g element (Some name) = Some (record { grammar = g; name = name })
-found_or_added g element None = if nat_lt (length g.rules) most_names then Some (with_list g element) else None
+found_or_added g element None = if nat_lt (length g.rules) most_names then Some (with_lists_of g element) else None
 
--- the lists of an element: found, or added; none where a 513th name is needed
+-- the lists of an element: found, or added; none where a 513th name is needed. Any rules count, those of a regular type too
 abbrev pub list_of : Grammar → ℕ → Option Listed
 list_of g element = found_or_added g element (found_list g element)
 

@@ -7,17 +7,19 @@ use Rattle.term_core.specs.declared.terms.Term.TheFolds.{fold-Term}
 use Rattle.prog_data.specs.declared.grammars.Rule.{Rule}
 use Rattle.prog_data.specs.declared.grammars.Rule.TheVariants.{Int, Atom, Node, Unit as UnitRule}
 
--- how many names the term needs where it is a part of another: one for each of its parts that is no variable, itself included
+-- numbers added up
 abbrev pub total : List ℕ → ℕ
 total [] = 0
 total (n ∷ ns) = n + total ns
 
+-- the names that a term needs, by those that its parts need
 abbrev pub size_step : layer.Term-F ℕ → ℕ
 size_step (layer.Var v) = 0
 size_step (layer.Int n) = 1
 size_step (layer.Atom a) = 1
 size_step (layer.Node f ns) = suc (total ns)
 
+-- how many names the term needs where it is a part of another: one for each of its parts that is no variable, itself included
 abbrev pub names_needed : Term → ℕ
 names_needed = fold-Term ℕ size_step
 
@@ -43,6 +45,7 @@ abbrev pub all_rules : ℕ → List Part → List Rule
 all_rules n [] = []
 all_rules n (p ∷ ps) = part_rules p.needs n p ++ all_rules (p.needs + n) ps
 
+-- how many names parts need
 abbrev pub all_needs : List Part → ℕ
 all_needs [] = 0
 all_needs (p ∷ ps) = p.needs + all_needs ps

@@ -9,7 +9,7 @@ use Rattle.term_core.specs.Terms.{occurrences, is_atom_of}
 use Rattle.term_core.specs.declared.fixed.TheConstants.{LIST, NECK, TRUE}
 use Rattle.term_core.specs.Shapes.{single_of, split, with_mark, atom_at}
 use Rattle.ciao_reader.specs.declared.sentences.Sentence.{Sentence}
-use Rattle.term_operands.specs.Operands.{joined_said}
+use Rattle.term_core.specs.Operands.{joined_said}
 use Rattle.regtype_grammar.specs.declared.literals.Literal.{Literal}
 
 -- a clause: the argument of its head, and the literals of its body

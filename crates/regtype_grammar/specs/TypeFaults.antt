@@ -62,6 +62,7 @@ abbrev pub clause_kind : (ℕ → Meaning) → Option TypeClause → Option Kind
 clause_kind means None = Some Shape
 clause_kind means (Some clause) = literals_kind means clause.literals
 
+-- what is wrong, if anything is, with its place
 abbrev pub fault_at : Place → Option Kind → Option Fault
 fault_at place None = None
 fault_at place (Some kind) = Some (record { place = place; kind = kind })
@@ -79,6 +80,7 @@ has_none (s ∷ ss) = false
 abbrev pub is_bad : List RegType → RegType → Bool
 is_bad before t = is_basic_name t.name || (list_any (λ u. u.name == t.name) before || has_none t.clauses)
 
+-- the fault of a declaration, at its place, after the types before it
 abbrev pub declaration_fault : List RegType → RegType → Option Fault
 declaration_fault before t = if is_bad before t then Some (record { place = t.place; kind = Shape }) else None
 
@@ -95,12 +97,13 @@ faults_after means file before (t ∷ ts) = type_faults means file before t ++ f
 abbrev pub module_fault : TypeModule → Option Fault
 module_fault m = least (faults_after (meaning (unnumbered m.visible)) m.file [] m.types)
 
--- a fault as it is told, with the position of its module
+-- a place and what is wrong there as a fault that is told, with the position of the module
 abbrev pub told_at : ℕ → Place → Kind → TypeFault
 told_at position place Shape = BadRegtype position place
 told_at position place Name = UnknownProperty position place
 told_at position place Choice = Ambiguous position place
 
+-- a fault as it is told
 abbrev pub told : ℕ → Fault → TypeFault
 told position f = told_at position f.place f.kind
 

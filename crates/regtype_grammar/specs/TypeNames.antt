@@ -1,9 +1,12 @@
--- Which grammar name a name stands for in a module.
+-- Which grammar name a name stands for in a module. What a module sees is given: its own types, and the imported ones that none of its own hides, each once; two of one name are ambiguous.
 -- The headline does not rest on this file.
-use Rattle.std.specs.Prelude.{◌<◌, ◌≤◌, ℕ, ◌+◌, ◌-◌, ◌==◌, nat_le, nat_lt, Bool, false, ◌&&◌, List, [], ◌∷◌, map, filter, length, slice_get, slice_index_or, if◌then◌else◌, Option, Some, None}
+use Rattle.std.specs.Prelude.{◌<◌, ◌≤◌, ℕ, ◌+◌, ◌-◌, ◌==◌, nat_le, Bool, false, ◌&&◌, List, [], ◌∷◌, map, filter, length, slice_get, slice_index_or, if◌then◌else◌, Option, Some, None}
 use Rattle.std.specs.List.{list_all, AllByRecursion}
+use Rattle.regtype_grammar.specs.declared.modules.RegType.{RegType}
 use Rattle.regtype_grammar.specs.declared.modules.SeenType.{SeenType}
 use Rattle.regtype_grammar.specs.declared.modules.TypeModule.{TypeModule}
+use Rattle.regtype_grammar.specs.declared.modules.TypeFault.{TypeFault}
+use Rattle.regtype_grammar.specs.declared.modules.TypeFault.TheVariants.{TooManyNames, NoMemory}
 use Rattle.term_core.specs.declared.fixed.TheConstants.{TERM, LIST, GROUND}
 use Rattle.prog_data.specs.declared.grammars.Seen.{Seen}
 use Rattle.regtype_grammar.specs.declared.meanings.Meaning.{Meaning}
@@ -22,11 +25,12 @@ abbrev pub count_types : List TypeModule → ℕ
 count_types [] = 0
 count_types (m ∷ ms) = length m.types + count_types ms
 
--- the grammar name of each module's first type: the types follow the ten basic names, module by module
+-- the grammar name of each module's first type, counted from n on: the types follow one another, module by module
 abbrev pub starts : ℕ → List TypeModule → List ℕ
 starts n [] = []
 starts n (m ∷ ms) = n ∷ starts (length m.types + n) ms
 
+-- the same behind the ten basic names
 abbrev pub first_names : List TypeModule → List ℕ
 first_names modules = starts 10 modules
 
@@ -41,6 +45,14 @@ are_few firsts visible = list_all (λ s. nat_le (number_of firsts s) 512) visibl
 -- types that are seen, each by its grammar name
 abbrev pub numbered : List ℕ → List SeenType → List Seen
 numbered firsts visible = map (λ s. record { name = s.name; kind = number_of firsts s }) visible
+
+-- the types that each module sees, each by its grammar name
+abbrev pub seen_types : List TypeModule → List (List Seen)
+seen_types modules = map (λ m. numbered (first_names modules) m.visible) modules
+
+-- the grammar names of types that are seen are below a number
+abbrev pub AreKindsBelow : ℕ → List Seen → Type 0
+AreKindsBelow size seen = AllByRecursion (λ s. s.kind < size) seen
 
 -- the same without numbers, where only the names count
 abbrev pub unnumbered : List SeenType → List Seen
@@ -71,15 +83,26 @@ IsMeaningBelow size Several = Unit {0}
 abbrev pub MeaningsStayInRange : Type 0
 MeaningsStayInRange = (seen : List Seen) (name size : ℕ) → 10 ≤ size → AllByRecursion (λ s. s.kind < size) seen → IsMeaningBelow size (meaning seen name)
 
--- whether a position is that of a type of a module, if the module is there
-abbrev pub is_within : ℕ → Option TypeModule → Bool
-is_within position None = false
-is_within position (Some m) = nat_lt position (length m.types)
+-- whether a type is there, and has the name
+abbrev pub has_type_name : ℕ → Option RegType → Bool
+has_type_name name None = false
+has_type_name name (Some t) = t.name == name
 
--- whether a type that is seen is a type of a module
+-- whether a module is there, and its type in a position has the name
+abbrev pub is_within : ℕ → ℕ → Option TypeModule → Bool
+is_within name position None = false
+is_within name position (Some m) = has_type_name name (slice_get m.types position)
+
+-- whether a type that is seen is a type of a module, and has its name
 abbrev pub is_seen_in : List TypeModule → SeenType → Bool
-is_seen_in modules seen = is_within seen.position (slice_get modules seen.module)
+is_seen_in modules seen = is_within seen.name seen.position (slice_get modules seen.module)
 
 -- whether each type that is seen is one
 abbrev pub are_seen : List TypeModule → Bool
 are_seen modules = list_all (λ m. list_all (is_seen_in modules) m.visible) modules
+
+-- why types that are seen have no grammar names: there are more than 502 types
+abbrev pub IsSeenFault : List TypeModule → TypeFault → Type 0
+IsSeenFault modules TooManyNames = 512 < 10 + count_types modules
+IsSeenFault modules NoMemory = Unit {0}
+IsSeenFault modules other = ⊥

@@ -1,6 +1,6 @@
 // The clauses of a regular type.
-ghost use Rattle.std.specs.Prelude.{◌≡◌, ◌↔◌, ◌&&◌, List, map, flat_map, nat_eq, IfOk, OnOk, ◌++◌, MatchOption, Some, None, IsSomeAnd};
-ghost use Rattle.std.specs.List.{list_any, list_all};
+ghost use Rattle.std.specs.Prelude.{◌≡◌, ◌&&◌, true, false, map, nat_eq, IfOk, OnOk, ◌++◌, ◌∷◌, [], MatchOption, Some, None};
+ghost use Rattle.std.specs.List.{list_any};
 ghost use Rattle.term_core.specs.declared.terms.Term.{out-Term};
 ghost use Rattle.term_core.specs.Terms.{occurrences};
 ghost use Rattle.ciao_reader.specs.declared.sentences.Sentence.{Sentence as SentenceValue};
@@ -8,6 +8,7 @@ ghost use Rattle.regtype_grammar.specs.TypeClauses.{are_once, are_among, is_regu
 
 use crate::literals::{Literal, body_literals};
 use ciao_reader::Sentence;
+use indexmap::IndexSet;
 use sqlite_items::Items;
 use std::alloc::Global;
 use term_core::{NECK, NoMemory, Term};
@@ -39,41 +40,75 @@ fn occurrences(alloc: Global, term: &Term) -> Result<Items<u64>, NoMemory>
     Ok(variables)
 }
 
-fn is_among(number: u64, numbers: &[u64]) -> bool
-    ensures { result ≡ list_any (nat_eq number) numbers.now }
+// Adds a number that is not there.
+fn add_new(set: &mut IndexSet<u64>, number: u64) -> Result<(), NoMemory>
+    requires { list_any (nat_eq number) set.old.keys ≡ false }
+    ensures { OnOk result ((set.new.keys ≡ set.old.keys ++ number ∷ []) × (list_any (nat_eq number) set.old.keys ≡ false)) }
 {
-    for other in numbers {
-        if number == *other {
-            return true;
-        }
-    }
-    false
+    set.insert(number)?;
+    Ok(())
 }
 
-// Whether no number stands twice.
-fn are_once(numbers: &[u64]) -> bool
-    ensures { result ≡ are_once numbers.now }
+// The numbers as a set, none where one of them stands twice.
+fn distinct(alloc: Global, numbers: &[u64]) -> Result<Option<IndexSet<u64>>, NoMemory>
+    ensures { IfOk result (λ set. MatchOption set (are_once numbers.now ≡ false) (λ s. (s.keys ≡ numbers.now) × (are_once numbers.now ≡ true))) }
 {
-    let mut at = 0;
-    while at < numbers.len() {
-        if is_among(numbers[at], &numbers[at + 1..]) {
-            return false;
+    let mut set = IndexSet::new(alloc);
+    for number in numbers {
+        if set.contains(number) {
+            return Ok(None);
         }
-        at += 1;
+        add_new(&mut set, *number)?;
     }
-    true
+    Ok(Some(set))
 }
 
 // Whether each number is one of others.
-fn are_among(others: &[u64], numbers: &[u64]) -> bool
-    ensures { result ≡ are_among others.now numbers.now }
+fn are_among(others: &IndexSet<u64>, numbers: &[u64]) -> bool
+    ensures { result ≡ are_among others.now.keys numbers.now }
 {
     for number in numbers {
-        if !is_among(*number, others) {
+        if !others.contains(number) {
             return false;
         }
     }
     true
+}
+
+// Whether no number stands twice.
+fn are_once(alloc: Global, numbers: &[u64]) -> Result<bool, NoMemory>
+    ensures { IfOk result (λ test. test ≡ are_once numbers.now) }
+{
+    let set = distinct(alloc, numbers)?;
+    Ok(set.is_some())
+}
+
+// Whether each number is one of others, and none stands twice.
+fn are_bound(alloc: Global, variables: &IndexSet<u64>, bound: &[u64]) -> Result<bool, NoMemory>
+    ensures { IfOk result (λ test. test ≡ (are_among variables.now.keys bound.now && are_once bound.now)) }
+{
+    if !are_among(variables, bound) {
+        return Ok(false);
+    }
+    let once = are_once(alloc, bound)?;
+    Ok(once)
+}
+
+// The same where there are others.
+fn is_bound(
+    alloc: Global,
+    variables: Option<IndexSet<u64>>,
+    bound: &[u64],
+) -> Result<bool, NoMemory>
+    ensures { IfOk result (λ test. MatchOption variables (test ≡ false) (λ s. test ≡ (are_among s.keys bound.now && are_once bound.now))) }
+{
+    match variables {
+        None => Ok(false),
+        Some(set) => {
+            let test = are_bound(alloc, &set, bound)?;
+            Ok(test)
+        }
+    }
 }
 
 fn variables_of(alloc: Global, literals: &[Literal]) -> Result<Items<u64>, NoMemory>
@@ -91,13 +126,9 @@ fn is_regular(alloc: Global, argument: &Term, literals: &[Literal]) -> Result<bo
 {
     let variables = occurrences(alloc, argument)?;
     let bound = variables_of(alloc, literals)?;
-    if !are_once(variables.as_slice()) {
-        return Ok(false);
-    }
-    if !are_among(variables.as_slice(), bound.as_slice()) {
-        return Ok(false);
-    }
-    Ok(are_once(bound.as_slice()))
+    let set = distinct(alloc, variables.as_slice())?;
+    let test = is_bound(alloc, set, bound.as_slice())?;
+    Ok(test)
 }
 
 /// The head's argument and the literals of a sentence that is a clause of the type of this name.

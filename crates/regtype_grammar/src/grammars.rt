@@ -1,13 +1,14 @@
 // The grammar of the types of modules.
 ghost use Rattle.std.specs.Prelude.{◌≡◌, ◌≤◌, ◌+◌, ◌-◌, length, true, Some, None, IfOk, IfErr};
-ghost use Rattle.std.specs.List.{list_all};
+ghost use Rattle.std.specs.List.{list_all, AllByRecursion};
 ghost use Rattle.prog_data.specs.GrammarRange.{IsGrammar};
-ghost use Rattle.regtype_grammar.specs.TypeNames.{numbered, are_few, are_seen, meaning};
+ghost use Rattle.regtype_grammar.specs.TypeNames.{count_types, numbered, are_few, are_seen, seen_types, AreKindsBelow, meaning};
 ghost use Rattle.regtype_grammar.specs.TypeFaults.{refused};
 ghost use Rattle.regtype_grammar.specs.Grammars.{AllFit, Fits, FitsLists, no_types, with_literals, with_rule_by, with_rule, with_clause, with_clauses, with_type, with_types, with_module, with_modules, nothing_made, made_rules, grammar_of, IsTypeFault};
 ghost use Rattle.regtype_grammar.specs.TypeClauses.{clause_of};
 ghost use Rattle.regtype_grammar.specs.TermRules.{names_needed};
-ghost use Rattle.regtype_grammar.specs.TypeTerms.{TypesHaveTheirTerms};
+ghost use Rattle.regtype_grammar.specs.TypeTerms.{TypesHaveTheirTerms, TypesHaveLeastTerms};
+ghost use Rattle.regtype_grammar.specs.RuleNames.{TypesGiveNamedRules};
 
 use crate::clauses::clause_of;
 use crate::faults::refused;
@@ -329,6 +330,9 @@ pub fn grammar_of(
     requires { are_seen modules.now ≡ true }
     ensures ok { IfOk result (λ grammar. (refused modules.now ≡ None) × (grammar_of modules.now ≡ Some grammar)) }
     ensures range { IfOk result (λ grammar. IsGrammar grammar) }
+    ensures types { IfOk result (λ grammar. 10 + count_types modules.now ≤ length grammar.rules) }
+    ensures seen { IfOk result (λ grammar. AllByRecursion (AreKindsBelow (length grammar.rules)) (seen_types modules.now)) }
+    ensures named { IfOk result (TypesGiveNamedRules modules.now) }
     ensures err { IfErr result (IsTypeFault modules.now) }
 {
     match refused(alloc, modules)? {
@@ -340,7 +344,12 @@ pub fn grammar_of(
     }
 }
 
-/// What belongs to a type is exactly what its clauses give.
+/// A term belongs to a type exactly where a clause of the type gives it from terms that belong to the types of its variables.
 pub fn types_law()
     ensures { TypesHaveTheirTerms }
+{}
+
+/// What belongs to a type is the least that the clauses give: each term of it is given within finitely many clauses.
+pub fn least_terms_law()
+    ensures { TypesHaveLeastTerms }
 {}

@@ -16,8 +16,8 @@ mod terms;
 
 pub use clauses::clause_law;
 pub use declarations::{declaration_law, declared_type};
-pub use grammars::{grammar_of, types_law};
-pub use lists::{list_of, lists_law};
+pub use grammars::{grammar_of, least_terms_law, types_law};
+pub use lists::{list_of, lists_law, old_names_law};
 pub use meanings::{Meaning, meanings_law, type_meant};
 pub use modules::{RegType, SeenType, TypeFault, TypeModule};
-pub use seen::are_seen;
+pub use seen::{are_seen, seen_types};

@@ -1,7 +1,9 @@
 // The lists of an element.
 ghost use Rattle.std.specs.Prelude.{◌≡◌, ◌<◌, ◌≤◌, ◌^◌, ◌∷◌, [], length, Some, None, IfOk, IfErr, OnErr};
 ghost use Rattle.regtype_grammar.specs.Lists.{list_rules, are_both, is_nil, is_cell, are_list_rules, list_from, found_list, Listed, list_of, ListsStayInRange, IsListFault};
-ghost use Rattle.regtype_grammar.specs.ListTerms.{ListsAreLists};
+ghost use Rattle.term_core.specs.Lists.{IsPrefix};
+ghost use Rattle.regtype_grammar.specs.ListTerms.{ListsAreLists, OldNamesKeepTerms};
+ghost use Rattle.regtype_grammar.specs.RuleNames.{RulesStayNamed};
 
 use crate::TypeFault;
 use prog_data::{Grammar, Rule};
@@ -94,13 +96,15 @@ fn find_or_add(alloc: Global, grammar: &mut Grammar, element: u64) -> Result<u64
     }
 }
 
-/// The name of the lists of an element, which is found or added.
+/// The name of the lists of an element, which is found or added; the rules of the other names stay as they are.
 ///
 /// # Errors
 /// That a 513th name is needed; want of memory.
 pub fn list_of(alloc: Global, grammar: &mut Grammar, element: u64) -> Result<u64, TypeFault>
     ensures ok { IfOk result (λ name. list_of grammar.old element ≡ Some (record { grammar = grammar.new; name = name })) }
     ensures range { IfOk result (λ name. ListsStayInRange grammar.old element grammar.new name) }
+    ensures named { IfOk result (λ name. RulesStayNamed grammar.old grammar.new) }
+    ensures front { IfOk result (λ name. IsPrefix grammar.old.rules grammar.new.rules) }
     ensures err { IfErr result (IsListFault grammar.old element) }
     ensures kept { OnErr result (grammar.new ≡ grammar.old) }
 {
@@ -110,4 +114,9 @@ pub fn list_of(alloc: Global, grammar: &mut Grammar, element: u64) -> Result<u64
 /// What belongs to the lists of an element is exactly the proper lists of what belongs to the element.
 pub fn lists_law()
     ensures { ListsAreLists }
+{}
+
+/// What belongs to a name stays the same where further names come behind.
+pub fn old_names_law()
+    ensures { OldNamesKeepTerms }
 {}

@@ -3,13 +3,12 @@ ghost use Rattle.std.specs.Prelude.{◌≡◌, map, Some, IfOk, option_copied};
 ghost use Rattle.term_core.specs.declared.terms.Term.{out-Term};
 ghost use Rattle.term_core.specs.declared.fixed.TheConstants.{TRUE};
 ghost use Rattle.term_core.specs.Terms.{is_atom_of};
-ghost use Rattle.term_operands.specs.Operands.{all_said, joined_said};
+ghost use Rattle.term_core.specs.Operands.{all_said, joined_said};
 ghost use Rattle.regtype_grammar.specs.TypeClauses.{plain_literal, list_literal, literal_at, body_literals};
 
 use sqlite_items::Items;
 use std::alloc::Global;
-use term_core::{LIST, NoMemory, TRUE, Term};
-use term_operands::conjuncts;
+use term_core::{LIST, NoMemory, TRUE, Term, conjuncts};
 
 /// A variable, and the name of its type or of the type of its elements.
 #[derive(Clone, Copy, Drop)]

@@ -15,7 +15,7 @@ pub struct RegType {
     pub place: Place,
 }
 
-/// A type that is seen by its name: the position of its module, and its position among the types of the module.
+/// A type that is seen by its name: the position of its module, and its position among the types of the module, where it has this name.
 #[derive(Clone, Copy, Drop)]
 pub struct SeenType {
     pub name: u64,
@@ -23,7 +23,9 @@ pub struct SeenType {
     pub position: u64,
 }
 
-/// The types of a file, and those that are seen in it. Two of one name are ambiguous.
+/// The types of a file, and those that are seen in it, in any order.
+///
+/// Who makes one puts each own type among the visible ones, once, and each imported type whose name no own type has, once: own types hide imported ones. So two visible types of one name are different types of other modules, and the name is ambiguous.
 #[derive(Drop)]
 pub struct TypeModule {
     pub file: u64,

@@ -1,21 +1,25 @@
 // The types that are seen in a module.
-ghost use Rattle.std.specs.Prelude.{◌≡◌, ◌≤◌, slice_index_or, true, IfOk};
+ghost use Rattle.std.specs.Prelude.{◌≡◌, ◌≤◌, map, slice_index_or, true, IfOk, IfErr};
 ghost use Rattle.std.specs.List.{list_all};
-ghost use Rattle.regtype_grammar.specs.TypeNames.{number_of, are_few, numbered, unnumbered, is_within, is_seen_in, are_seen};
+ghost use Rattle.regtype_grammar.specs.TypeNames.{number_of, are_few, numbered, seen_types, unnumbered, is_seen_in, are_seen, IsSeenFault};
 
-use crate::{SeenType, TypeModule};
+use crate::starts::first_names;
+use crate::{SeenType, TypeFault, TypeModule};
 use prog_data::Seen;
 use sqlite_items::Items;
 use std::alloc::Global;
 use term_core::NoMemory;
 
-// Whether a type that is seen is a type of a module.
+// Whether a type that is seen is a type of a module, and has its name.
 fn is_seen_in(modules: &[TypeModule], seen: SeenType) -> bool
     ensures { result ≡ is_seen_in modules.now seen }
 {
     match modules.get(seen.module as usize) {
         None => false,
-        Some(one) => seen.position < one.types.len() as u64,
+        Some(one) => match one.types.as_slice().get(seen.position as usize) {
+            None => false,
+            Some(declared) => declared.name == seen.name,
+        },
     }
 }
 
@@ -31,7 +35,7 @@ fn all_seen(modules: &[TypeModule], visible: &[SeenType]) -> bool
     true
 }
 
-/// Whether each type that is seen in a module is a type of one of the modules.
+/// Whether each type that is seen in a module is a type of one of the modules, and has its name.
 pub fn are_seen(modules: &[TypeModule]) -> bool
     ensures { result ≡ are_seen modules.now }
 {
@@ -78,6 +82,41 @@ pub(crate) fn numbered(
         })?;
     }
     Ok(seen)
+}
+
+// The types that each module sees, by the grammar names of the first types of all modules.
+fn all_numbered(
+    alloc: Global,
+    firsts: &[u64],
+    modules: &[TypeModule],
+) -> Result<Items<Items<Seen>>, NoMemory>
+    requires { list_all (λ m. are_few firsts.now m.visible) modules.now ≡ true }
+    ensures { IfOk result (λ seen. seen ≡ map (λ m. numbered firsts.now m.visible) modules.now) }
+{
+    let mut seen = Items::new(alloc);
+    for one in modules {
+        let own = numbered(alloc, firsts, one.visible.as_slice())?;
+        seen.push(own)?;
+    }
+    Ok(seen)
+}
+
+/// The types that each module sees, each by its grammar name, in the order of the modules.
+///
+/// # Errors
+/// That there are more types than a grammar has names for, which `grammar_of` refuses too; want of memory.
+pub fn seen_types(alloc: Global, modules: &[TypeModule]) -> Result<Items<Items<Seen>>, TypeFault>
+    requires { are_seen modules.now ≡ true }
+    ensures ok { IfOk result (λ seen. seen ≡ seen_types modules.now) }
+    ensures err { IfErr result (IsSeenFault modules.now) }
+{
+    match first_names(alloc, modules)? {
+        None => Err(TypeFault::TooManyNames),
+        Some((firsts, _behind)) => {
+            let seen = all_numbered(alloc, firsts.as_slice(), modules)?;
+            Ok(seen)
+        }
+    }
 }
 
 /// The names that are seen, without their types.

@@ -8,7 +8,7 @@ use std::test::Fail;
 use term_core::Names;
 
 // Modules, and what is told of them: each name behind the basic ones with its rules, where `=` is a unit rule; or the fault with the position of its module and its line.
-const ROWS: [(&str, &str); 45] = [
+const ROWS: [(&str, &str); 49] = [
     // constants, compounds, units
     (
         ":- regtype tree/1.\ntree(leaf).\ntree(node(L,N,R)) :- tree(L), int(N), tree(R).",
@@ -31,6 +31,15 @@ const ROWS: [(&str, &str); 45] = [
     (
         ":- regtype t/1.\nt([X,Y]) :- atm(Y).\nt(f([])).",
         "10 ./0/11 f/13;11 ./4/12;12 [];13 [];",
+    ),
+    // the lists of a clause by its literals, before the parts of the next clause
+    (
+        ":- regtype a/1.\na(f(X,Y)) :- list(Y,int), list(X,atm).",
+        "10 f/12/11;11 [] ./1/11;12 [] ./4/12;",
+    ),
+    (
+        ":- regtype a/1.\na(f(b,X)) :- list(X,int).\na(g(c)).",
+        "10 f/11/12 g/13;11 b;12 [] ./1/12;13 c;",
     ),
     // several types, mutual ones, types that lead to one another
     (
@@ -74,7 +83,7 @@ const ROWS: [(&str, &str); 45] = [
     ),
     (
         ":- regtype a/1.\na(x).\n:- next.\n:- see(b,0,0).\n:- regtype a/1.\na(f(X)) :- b(X).",
-        "10 x;11 f/10;",
+        "not seen",
     ),
     (":- next.", ""),
     (":- see(a,0,0).", "not seen"),
@@ -91,6 +100,14 @@ const ROWS: [(&str, &str); 45] = [
     (
         ":- regtype a/1.\na(x).\n:- next.\n:- see(a,0,0).\n:- regtype a/1.\na(y).\n:- regtype b/1.\nb(X) :- list(X,a).",
         "Ambiguous 1 8",
+    ),
+    (
+        ":- regtype a/1.\na(x).\n:- next.\n:- regtype a/1.\na(y).\n:- next.\n:- see(a,0,0).\n:- see(a,1,0).\n:- regtype b/1.\nb(X) :- a(X).",
+        "Ambiguous 2 10",
+    ),
+    (
+        ":- regtype a/1.\na(x).\n:- next.\n:- regtype b/1.\nb(y).\n:- next.\n:- see(b,1,0).\n:- see(a,0,0).\n:- regtype c/1.\nc(f(X,Y)) :- a(X), b(Y).",
+        "10 x;11 y;12 f/10/11;",
     ),
     // declarations
     (":- regtype int/1.\nint(1).", "BadRegtype 0 1"),

@@ -11,3 +11,5 @@ mod lists;
 mod modules;
 #[cfg(test)]
 mod sizes;
+#[cfg(test)]
+mod visible;

@@ -1,7 +1,4 @@
-pub mod Built
-pub mod Moves
-pub mod Parts
+pub mod Going
+pub mod Running
 pub mod Runs
-pub mod Substitutions
-pub mod Testing
-pub mod Views
+pub mod Starts

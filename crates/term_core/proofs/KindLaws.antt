@@ -16,7 +16,7 @@ use Rattle.term_core.specs.Unify.{pairs, replace_all, Move, Becomes, Binds, Clas
 use Rattle.term_core.proofs.TermFolds.{fold-Int, fold-Atom}
 use Rattle.term_core.proofs.TermLaws.{instance-Var, instance-Node, instance-instance, replace-absent}
 use Rattle.term_core.proofs.Occurrences.{occurs-Var}
-use Rattle.term_core.specs.Variants.{all_instances, AreVariants, SameKind}
+use Rattle.term_core.specs.Variants.{all_instances, AreVariants, SameKind, EndsAs}
 use Rattle.term_core.proofs.VariantLaws.{View, is_var, is_int, is_atom, is_node, view, var_inside, node_inside, occurs_instance, all_instances-append, instance_pairs, all_instances_twice, only_same, replaced_same}
 
 -- an equation of these
@@ -192,10 +192,10 @@ pub ended_stays : (k : ℕ) (o : Outcome) → solves k (Ended o) ≡ Ended o
 ended_stays zero o = refl
 ended_stays (suc k) o = ended_stays k o
 
-ended_inside : (o o' : Outcome) → Ended o ≡ Ended o' → o ≡ o'
+pub ended_inside : (o o' : Outcome) → Ended o ≡ Ended o' → o ≡ o'
 ended_inside o o' e = cc
 
-open_ended : (es : List Equation) (bs : List Binding) (o : Outcome) → Open es bs ≡ Ended o → ⊥
+pub open_ended : (es : List Equation) (bs : List Binding) (o : Outcome) → Open es bs ≡ Ended o → ⊥
 open_ended es bs o e = cc
 
 -- where one stage ends so, the other ends alike
@@ -252,3 +252,42 @@ pub same_kind : (there back : ℕ → Term) (es es' : List Equation) (o o' : Out
 same_kind there back es es' o o' are u u' =
     let found = kinds u.0 there back es es' are [] [] o u.1 in
     subst (SameKind o) (one_end found.1.0 u'.0 (Open es' []) found.0 o' found.1.1 u'.1) found.2
+
+-- kinds of outcomes: an equivalence
+
+pub same_itself : (o : Outcome) → SameKind o o
+same_itself (Solved bs) = tt
+same_itself Clash = tt
+same_itself Cyclic = tt
+
+same_turned : (o p : Outcome) → SameKind o p → SameKind p o
+same_turned (Solved bs) (Solved cs) h = tt
+same_turned Clash Clash h = tt
+same_turned Cyclic Cyclic h = tt
+same_turned (Solved bs) Clash h = absurd h
+same_turned (Solved bs) Cyclic h = absurd h
+same_turned Clash (Solved bs) h = absurd h
+same_turned Clash Cyclic h = absurd h
+same_turned Cyclic (Solved bs) h = absurd h
+same_turned Cyclic Clash h = absurd h
+
+same_then : (o p q : Outcome) → SameKind o p → SameKind p q → SameKind o q
+same_then (Solved bs) (Solved cs) q h k = k_of q k where
+  k_of : (q : Outcome) → SameKind (Solved cs) q → SameKind (Solved bs) q
+  k_of (Solved ds) k = tt
+  k_of Clash k = absurd k
+  k_of Cyclic k = absurd k
+same_then Clash Clash q h k = k
+same_then Cyclic Cyclic q h k = k
+same_then (Solved bs) Clash q h k = absurd h
+same_then (Solved bs) Cyclic q h k = absurd h
+same_then Clash (Solved bs) q h k = absurd h
+same_then Clash Cyclic q h k = absurd h
+same_then Cyclic (Solved bs) q h k = absurd h
+same_then Cyclic Clash q h k = absurd h
+
+-- the bindings that were made do not matter, and no more do the names of variables
+pub variants_end : (there back : ℕ → Term) (es es' : List Equation) → AreVariants there back es es' → (bs : List Binding) (o : Outcome) → EndsAs es o → (o' : Outcome) × EndsSo (Open es' bs) o' × SameKind o' o
+variants_end there back es es' are bs o ends =
+    let found = kinds ends.1.0 there back es es' are [] bs ends.0 ends.1.1 in
+    (found.0, found.1, same_then found.0 ends.0 o (same_turned ends.0 found.0 found.2) ends.2)

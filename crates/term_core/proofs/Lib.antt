@@ -1,9 +1,12 @@
+pub mod AloneLaws
+mod ConjunctLoop
 mod Copies
 pub mod Counting
 mod FixedNames
 pub mod KindLaws
 pub mod NameLaws
 pub mod Occurrences
+pub mod OperandLaws
 mod OperatorChanges
 mod OperatorLists
 pub mod OperatorTables
@@ -11,6 +14,7 @@ mod OperatorTies
 mod OperatorTorn
 mod QuotingLemmas
 mod RangeLaws
+mod SequenceLaws
 mod ShortLists
 mod SizeLaws
 pub mod Sizes
@@ -23,3 +27,5 @@ pub mod Turns
 pub mod UnifyEnds
 pub mod VarLemmas
 pub mod VariantLaws
+pub mod VariantStages
+pub mod VariantTests

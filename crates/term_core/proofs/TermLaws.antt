@@ -1,9 +1,11 @@
 -- Laws of instances. Those of `replace`, `rename` and `resolve`, which are instances, follow from three.
 use Rattle.std.proofs.Common.{◌≡◌, ◌≤◌, ℕ, List, [], ◌∷◌, map, refl, ap, sym, ◌∙◌, arith, true≢false}
+use Rattle.std.proofs.lemmas.Bool.{eq-eqb, ne_eqb}
 use Rattle.std.proofs.lemmas.Bool.Decides.{nat_tests}
 use Rattle.std.specs.Prelude.{Bool, true, false, ◌||◌, ◌==◌, if◌then◌else◌}
 use Rattle.std.specs.List.{AllByRecursion, list_any}
 use Rattle.term_core.specs.declared.terms.Term.{Term, Var, Node}
+use Rattle.term_core.specs.Solutions.{with_value}
 use Rattle.term_core.specs.Terms.{instance, instance_step, only, replace, occurs, occurs_step, depth_of, depth_step, greatest}
 use Rattle.term_core.proofs.TermFolds.{fold-Var, fold-Int, fold-Atom, fold-Node, ind_terms, map_same}
 
@@ -71,6 +73,14 @@ replace-absent v t u absent = instance_agrees (only v t) Var u (λ w o. other w 
     other : (w : ℕ) → occurs w u ≡ true → (b : Bool) → (v == w) ≡ b → only v t w ≡ Var w
     other w o false e = ap (λ b. if b then t else Var w) e
     other w o true e = absurd (true≢false (sym o ∙ ap (λ x. occurs x u) (sym (eq_of w e)) ∙ absent))
+
+-- another value at one place
+
+pub with_other : (value : ℕ → Term) (n : ℕ) (t : Term) (i : ℕ) → (i ≡ n → ⊥) → with_value value n t i ≡ value i
+with_other value n t i ne = ap (λ b. if b then t else value i) (ne_eqb i n ne)
+
+pub with_same : (value : ℕ → Term) (n : ℕ) (t : Term) → with_value value n t n ≡ t
+with_same value n t = ap (λ b. if b then t else value n) (eq-eqb n n refl)
 
 -- an instance is no shallower
 pub depth-instance : (f : ℕ → Term) (t : Term) → depth_of t ≤ depth_of (instance f t)

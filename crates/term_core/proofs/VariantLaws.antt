@@ -12,7 +12,7 @@ use Rattle.term_core.specs.Terms.{instance, only, occurs, occurs_step}
 use Rattle.term_core.specs.Unify.{pairs}
 use Rattle.term_core.specs.Solutions.{Solves}
 use Rattle.term_core.proofs.TermFolds.{fold-Int, fold-Atom, ind_terms}
-use Rattle.term_core.proofs.TermLaws.{instance-Var, instance-Node, instance-instance}
+use Rattle.term_core.proofs.TermLaws.{instance-Var, instance-Node, instance-instance, instance-itself}
 use Rattle.term_core.proofs.Occurrences.{occurs-Node, occurs-Var}
 use Rattle.term_core.specs.Variants.{all_instances, AreVariants, IsMostGeneral}
 
@@ -76,6 +76,10 @@ pub instance_pairs : (value : ℕ → Term) (ts us : List Term) → all_instance
 instance_pairs value [] us = refl
 instance_pairs value (t ∷ ts) [] = refl
 instance_pairs value (t ∷ ts) (u ∷ us) = ap (λ es. record { left = instance value t; right = instance value u } ∷ es) (instance_pairs value ts us)
+
+pub all_instances-itself : (es : List Equation) → all_instances Var es ≡ es
+all_instances-itself [] = refl
+all_instances-itself (e ∷ es) = λ i. record { left = instance-itself e.left i; right = instance-itself e.right i } ∷ all_instances-itself es i
 
 -- instances of instances of equations
 pub all_instances_twice : (f g h : ℕ → Term) → ((v : ℕ) → instance f (g v) ≡ h v) → (es : List Equation) → all_instances f (all_instances g es) ≡ all_instances h es

@@ -1,14 +1,17 @@
 pub mod Characters
 pub mod Lists
 pub mod Names
+pub mod Operands
 pub mod OperatorLaws
 pub mod Operators
 pub mod Printing
 pub mod Ranges
+pub mod Sequences
 pub mod Shapes
 pub mod Sizes
 pub mod Solutions
 pub mod Standard
 pub mod Terms
 pub mod Unify
+pub mod VariantTests
 pub mod Variants

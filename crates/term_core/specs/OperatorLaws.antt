@@ -8,16 +8,16 @@ use Rattle.term_core.specs.declared.operators.OpKind.TheVariants.{Xfy, Yfx, Fy}
 use Rattle.term_core.specs.declared.operators.Definition.{Definition}
 use Rattle.term_core.specs.declared.operators.Operators.{Operators}
 use Rattle.term_core.specs.declared.fixed.TheConstants.{COMMA, BAR}
-use Rattle.term_core.specs.Operators.{prefix_of, infix_of, is_before, left_limit, right_limit, is_reserved, added}
+use Rattle.term_core.specs.Operators.{greatest_priority, argument_priority, prefix_of, infix_of, is_before, left_limit, right_limit, is_reserved, added}
 use Rattle.term_core.specs.Standard.{standard, IsMade}
 
 -- each name stands once in the list
 abbrev pub NamesOnce : List Definition → Type 0
 NamesOnce ds = IsDistinct nat_eq (map (λ d. d.name) ds)
 
--- a priority from 1 to 1200
+-- a priority from 1 to the greatest
 abbrev pub IsPriority : ℕ → Type 0
-IsPriority p = (1 ≤ p) × (p ≤ 1200)
+IsPriority p = (1 ≤ p) × (p ≤ greatest_priority)
 
 -- each name is at most one prefix and one infix operator, of a kind that stands there; no priority has both a yfx and an xfy operator, nor both an fy and a yfx operator; the names that no change takes are what they were from the start
 pub record IsOrderly (ops : Operators) : Type 0 where
@@ -33,8 +33,8 @@ pub record IsOrderly (ops : Operators) : Type 0 where
 pub record HasOneRoot (ops : Operators) : Type 0 where
   pub infix_ties : (f g : ℕ) (o q : Op) → infix_of ops f ≡ Some o → infix_of ops g ≡ Some q → o.priority ≤ left_limit q → right_limit o < q.priority
   pub prefix_ties : (f g : ℕ) (o q : Op) → prefix_of ops f ≡ Some o → infix_of ops g ≡ Some q → o.priority ≤ left_limit q → right_limit o < q.priority
-  pub comma : (q : Op) → infix_of ops COMMA ≡ Some q → 999 < q.priority
-  pub bar : (q : Op) → infix_of ops BAR ≡ Some q → 999 < q.priority
+  pub comma : (q : Op) → infix_of ops COMMA ≡ Some q → argument_priority < q.priority
+  pub bar : (q : Op) → infix_of ops BAR ≡ Some q → argument_priority < q.priority
 
 -- every table is orderly
 abbrev pub TablesAreOrderly : Type 0

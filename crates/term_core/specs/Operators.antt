@@ -8,6 +8,18 @@ use Rattle.term_core.specs.declared.operators.OpKind.TheVariants.{Xfx, Xfy, Yfx,
 use Rattle.term_core.specs.declared.operators.Definition.{Definition}
 use Rattle.term_core.specs.declared.operators.Operators.{Operators}
 
+-- the greatest priority of all, which a whole term may have
+abbrev pub greatest_priority : ℕ
+greatest_priority = 1200
+
+-- the greatest priority of an argument of a compound, and of an item or the tail of a list
+abbrev pub argument_priority : ℕ
+argument_priority = 999
+
+-- the priority of the prefix operators that are keywords and statuses of assertions
+abbrev pub keyword_priority : ℕ
+keyword_priority = 1150
+
 -- what a name is in a list
 abbrev pub defined : List Definition → ℕ → Option Op
 defined [] name = None
@@ -27,15 +39,17 @@ is_before Fy = true
 is_before Fx = true
 is_before k = false
 
--- the three kinds that may have an argument of their own priority
+-- an infix operator whose left argument may have its own priority
 abbrev pub is_yfx : OpKind → Bool
 is_yfx Yfx = true
 is_yfx k = false
 
+-- an infix operator whose right argument may have its own priority
 abbrev pub is_xfy : OpKind → Bool
 is_xfy Xfy = true
 is_xfy k = false
 
+-- a prefix operator whose argument may have its own priority
 abbrev pub is_fy : OpKind → Bool
 is_fy Fy = true
 is_fy k = false
@@ -80,7 +94,7 @@ is_reserved name = nat_le name BAR
 abbrev pub checked_change : Definition → Operators → Option Operators
 checked_change new ops = if is_reserved new.name || is_torn (changed new ops) then None else Some (changed new ops)
 
--- the table after `op(p,kind,name)`, or None where that is refused, as it is where p is not from 0 to 1200
+-- the table after `op(p,kind,name)`, or None where that is refused, as it is where p is below 0 or above the greatest priority
 abbrev pub added : ℤ → OpKind → ℕ → Operators → Option Operators
-added (pos p) kind name ops = if nat_le p 1200 then checked_change (record { name = name; op = record { priority = p; kind = kind } }) ops else None
+added (pos p) kind name ops = if nat_le p greatest_priority then checked_change (record { name = name; op = record { priority = p; kind = kind } }) ops else None
 added (negsuc p) kind name ops = None

@@ -10,7 +10,7 @@ use Rattle.term_core.specs.declared.terms.Term.TheFolds.{fold-Term}
 use Rattle.term_core.specs.Names.{name_text}
 use Rattle.term_core.specs.declared.fixed.TheConstants.{NIL, CELL, BRACES, COMMA, BAR}
 use Rattle.term_core.specs.Characters.{is_name}
-use Rattle.term_core.specs.Operators.{prefix_of, infix_of, left_limit, right_limit}
+use Rattle.term_core.specs.Operators.{argument_priority, keyword_priority, prefix_of, infix_of, left_limit, right_limit}
 
 -- names
 
@@ -43,15 +43,17 @@ pub record Shown : Type 0 where
   -- what stands behind the items before it where it is the tail of a list
   pub as_tail : List ℕ
 
+-- a text in parentheses
 abbrev pub in_parens : List ℕ → List ℕ
 in_parens text = codes "(" ++ text ++ codes ")"
 
+-- a text, in parentheses where they are needed
 abbrev pub in_parens_where : Bool → List ℕ → List ℕ
 in_parens_where needed text = if needed then in_parens text else text
 
--- at its place as an argument of a compound or as an item or the tail of a list, where a priority of 999 is allowed
+-- at its place as an argument of a compound or as an item or the tail of a list
 abbrev pub at_argument : Shown → List ℕ
-at_argument s = in_parens_where (nat_lt 999 s.priority) s.text
+at_argument s = in_parens_where (nat_lt argument_priority s.priority) s.text
 
 -- at its place as an argument of an operator, where this priority is allowed
 abbrev pub at_operand : ℕ → Shown → List ℕ
@@ -72,7 +74,7 @@ after_bar text = codes "|" ++ text ++ codes "]"
 
 -- a term that is neither an atom nor a list cell
 abbrev pub plain_shown : ℕ → List ℕ → Shown
-plain_shown priority text = record { text = text; priority = priority; is_operator = false; as_tail = after_bar (in_parens_where (nat_lt 999 priority) text) }
+plain_shown priority text = record { text = text; priority = priority; is_operator = false; as_tail = after_bar (in_parens_where (nat_lt argument_priority priority) text) }
 
 -- a list cell: an item, and what stands behind it
 abbrev pub cell_shown : Shown → Shown → Shown
@@ -87,6 +89,7 @@ module _ (names : List (List ℕ)) (ops : Operators) (quoted : Bool) where
   abbrev pub atom_text : ℕ → List ℕ
   atom_text a = if a == NIL || a == BRACES then name_text names a else name_shown a
 
+  -- an atom: it may be an operator, and as a tail `[]` ends the list
   abbrev pub atom_shown : ℕ → Shown
   atom_shown a = record {
     text = atom_text a;
@@ -99,6 +102,7 @@ module _ (names : List (List ℕ)) (ops : Operators) (quoted : Bool) where
   abbrev pub call_text : ℕ → List (List ℕ) → List ℕ
   call_text f texts = name_shown f ++ codes "(" ++ with_commas texts ++ codes ")"
 
+  -- a compound written as a call
   abbrev pub call_shown : ℕ → List Shown → Shown
   call_shown f parts = plain_shown 0 (call_text f (map at_argument parts))
 
@@ -114,16 +118,17 @@ module _ (names : List (List ℕ)) (ops : Operators) (quoted : Bool) where
   abbrev pub infix_text : ℕ → Op → Shown → Shown → List ℕ
   infix_text f o left right = at_operand (left_limit o) left ++ infix_name f ++ at_operand (right_limit o) right
 
-  -- a compound of one argument, by what its name is as a prefix operator; one of priority 1150 stands for an assertion's keyword and is written as a call
+  -- a compound of one argument, by what its name is as a prefix operator; one of the priority of keywords, whatever its name, is written as a call
   abbrev pub one_shown : ℕ → Option Op → Shown → Shown
   one_shown f None part = call_shown f (part ∷ [])
-  one_shown f (Some o) part = if o.priority == 1150 then call_shown f (part ∷ []) else plain_shown o.priority (prefix_text f o part)
+  one_shown f (Some o) part = if o.priority == keyword_priority then call_shown f (part ∷ []) else plain_shown o.priority (prefix_text f o part)
 
   -- a compound of two arguments, by what its name is as an infix operator
   abbrev pub two_shown : ℕ → Option Op → Shown → Shown → Shown
   two_shown f None left right = call_shown f (left ∷ right ∷ [])
   two_shown f (Some o) left right = plain_shown o.priority (infix_text f o left right)
 
+  -- a compound: `{}` with one argument, a list cell, by its name as an operator, or as a call
   abbrev pub compound_shown : ℕ → List Shown → Shown
   compound_shown f (part ∷ []) = if f == BRACES then plain_shown 0 (codes "{" ++ part.text ++ codes "}") else one_shown f (prefix_of ops f) part
   compound_shown f (left ∷ right ∷ []) = if f == CELL then cell_shown left right else two_shown f (infix_of ops f) left right

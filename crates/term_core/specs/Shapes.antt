@@ -4,6 +4,10 @@ use Rattle.term_core.specs.declared.terms.Term.{Term, out-Term}
 use Rattle.term_core.specs.declared.terms.Term as term
 use Rattle.term_core.specs.declared.terms.Term.TheOpen.{Term-F, Atom, Node}
 
+-- how many arguments a compound has at most
+abbrev pub greatest_arity : ℕ
+greatest_arity = 255
+
 -- the name of an atom
 abbrev pub atom_at : Term-F Term → Option ℕ
 atom_at (Atom name) = Some name
@@ -44,11 +48,12 @@ abbrev pub pair_of : ℕ → Term-F Term → Option (Term × Term)
 pair_of name (Node f (left ∷ right ∷ [])) = if f == name then Some (left, right) else None
 pair_of name other = None
 
--- a term before a mark, and the field behind it if the mark is there
+-- a term alone, or the two that a mark joins
 abbrev pub split_by : Term → Option (Term × Term) → Term × Option Term
 split_by t None = (t, None)
 split_by t (Some p) = (p.0, Some p.1)
 
+-- a term before a mark, and the field behind it if the mark is there
 abbrev pub split : ℕ → Term → Term × Option Term
 split mark t = split_by t (pair_of mark (out-Term t))
 

@@ -1,6 +1,6 @@
 -- What the outcome of equations says of the values that solve them.
 -- The headline does not rest on this file.
-use Rattle.std.specs.Prelude.{◌≡◌, ℕ, List}
+use Rattle.std.specs.Prelude.{◌≡◌, ℕ, ◌==◌, List, if◌then◌else◌}
 use Rattle.std.specs.List.{AllByRecursion}
 use Rattle.term_core.specs.declared.terms.Term.{Term}
 use Rattle.term_core.specs.declared.equations.Equation.{Equation}
@@ -8,6 +8,10 @@ use Rattle.term_core.specs.declared.equations.Outcome.{Outcome}
 use Rattle.term_core.specs.declared.equations.Outcome.TheVariants.{Solved, Clash, Cyclic}
 use Rattle.term_core.specs.Terms.{instance}
 use Rattle.term_core.specs.Unify.{Unified, values}
+
+-- these values, but t at one place
+abbrev pub with_value : (ℕ → Term) → ℕ → Term → ℕ → Term
+with_value value at t i = if i == at then t else value i
 
 -- under these values of variables both sides of each equation are one term
 abbrev pub Solves : (ℕ → Term) → List Equation → Type 0

@@ -5,7 +5,7 @@ use Rattle.term_core.specs.declared.operators.OpKind.TheVariants.{Xfx, Xfy, Yfx,
 use Rattle.term_core.specs.declared.operators.Definition.{Definition}
 use Rattle.term_core.specs.declared.operators.Operators.{Operators}
 use Rattle.term_core.specs.Names.{fixed_names, place_of}
-use Rattle.term_core.specs.Operators.{added}
+use Rattle.term_core.specs.Operators.{keyword_priority, added}
 
 -- names as operators of one priority and kind
 abbrev pub all_defined : ℕ → OpKind → List ℕ → List Definition
@@ -19,8 +19,8 @@ defined_with p kind texts = all_defined p kind (map (λ text. place_of text fixe
 abbrev pub standard_prefixes : List Definition
 standard_prefixes =
     defined_with 1200 Fx (codes ":-" ∷ codes "?-" ∷ [])
-    ++ defined_with 1150 Fx (codes "pred" ∷ codes "calls" ∷ codes "success" ∷ codes "comp" ∷ codes "entry" ∷ codes "regtype" ∷ [])
-    ++ defined_with 1150 Fy (codes "check" ∷ codes "trust" ∷ codes "true" ∷ codes "checked" ∷ codes "false" ∷ [])
+    ++ defined_with keyword_priority Fx (codes "pred" ∷ codes "calls" ∷ codes "success" ∷ codes "comp" ∷ codes "entry" ∷ codes "regtype" ∷ [])
+    ++ defined_with keyword_priority Fy (codes "check" ∷ codes "trust" ∷ codes "true" ∷ codes "checked" ∷ codes "false" ∷ [])
     ++ defined_with 900 Fy (codes "\\+" ∷ [])
     ++ defined_with 200 Fy (codes "-" ∷ [])
     ++ defined_with 50 Fx (codes "~" ∷ [])

@@ -25,6 +25,10 @@ SameKind Clash Clash = ⊤
 SameKind Cyclic Cyclic = ⊤
 SameKind o other = ⊥
 
+-- equations end as this outcome does: solved, by a clash or by a cycle
+abbrev pub EndsAs : List Equation → Outcome → Type 0
+EndsAs es o = (o' : Outcome) × Unified es o' × SameKind o' o
+
 -- values that solve equations, and of which all values that do are instances
 pub record IsMostGeneral (es : List Equation) (value : ℕ → Term) : Type 0 where
   pub solves : Solves value es

@@ -5,17 +5,18 @@ use Rattle.std.specs.List.{AllByRecursion, list_any}
 use Rattle.std.proofs.lemmas.List.{length-append, length-map, map-append, append_assoc, append-nil, take_more}
 use Rattle.std.proofs.lemmas.Bool.{or_left, or_right, eq-eqb}
 use Rattle.term_core.specs.declared.terms.Term.{Term, Var, Node}
+use Rattle.term_core.specs.Solutions.{with_value}
 use Rattle.term_core.specs.Terms.{instance, occurs}
 use Rattle.term_core.specs.Sizes.{size, size_step, size_all}
 use Rattle.term_core.proofs.TermFolds.{fold_at_node}
-use Rattle.term_core.proofs.TermLaws.{instance_agrees, instance-Node, instance-Var}
+use Rattle.term_core.proofs.TermLaws.{instance_agrees, instance-Node, instance-Var, with_other, with_same}
 use Rattle.term_core.proofs.Occurrences.{occurs-Node, occurs-Var}
 use Rattle.term_core.specs.Lists.{IsPrefix}
 use Rattle.term_heap.specs.declared.cells.Cell.{Cell}
 use Rattle.term_heap.specs.declared.cells.Cell.TheVariants as cell
-use Rattle.term_heap.specs.Changes.{cell_term, grown, with_value, places, NamesBelow, NameBelow}
+use Rattle.term_heap.specs.Changes.{cell_term, grown, places, NamesBelow, NameBelow}
 use Rattle.term_heap.specs.Loads.{IsPlaced, from_base, RowIs, IsLoaded, AreLoaded, IsBlock}
-use Rattle.term_heap.proofs.ValueLaws.{grown_below, cell_term_same, names_more, with_other, with_same}
+use Rattle.term_heap.proofs.ValueLaws.{grown_below, cell_term_same, names_more}
 
 pub grown_append : (value : ℕ → Term) (n m : ℕ) (xs ys : List Cell) → m ≡ n + length xs → grown value n (xs ++ ys) ≡ grown (grown value n xs) m ys
 grown_append value n m [] ys e = ap (λ k. grown value k ys) (omega (arith, e))

@@ -1,9 +1,10 @@
 -- A heap as the changes that made it, the newest first: its cells, and the term of each place.
 -- The headline does not rest on this file.
-use Rattle.std.specs.Prelude.{◌≡◌, ℕ, zero, suc, ◌+◌, ◌==◌, ◌<◌, ◌≤◌, false, nat_le, List, [], ◌∷◌, ◌++◌, map, length, reverse, slice_index_or, slice_set, if◌then◌else◌, min, ◌^◌, ◌-◌, ◌⊎◌, ⊤}
+use Rattle.std.specs.Prelude.{◌≡◌, ℕ, zero, suc, ◌+◌, ◌<◌, ◌≤◌, false, nat_le, List, [], ◌∷◌, ◌++◌, map, length, reverse, slice_index_or, slice_set, if◌then◌else◌, min, ◌^◌, ◌-◌, ◌⊎◌, ⊤}
 use Rattle.std.specs.List.{AllByRecursion}
 use Rattle.term_core.specs.declared.terms.Term.{Term}
 use Rattle.term_core.specs.declared.terms.Term as term
+use Rattle.term_core.specs.Solutions.{with_value}
 use Rattle.term_core.specs.Terms.{replace, occurs}
 use Rattle.term_heap.specs.declared.cells.Cell.{Cell}
 use Rattle.term_heap.specs.declared.cells.Cell.TheVariants.{Free, Ref, Int, Atom, Node}
@@ -46,10 +47,6 @@ cell_term value at (Ref to) = value to
 cell_term value at (Int n) = term.Int n
 cell_term value at (Atom a) = term.Atom a
 cell_term value at (Node f count first) = term.Node f (map value (places first count))
-
--- one more value
-abbrev pub with_value : (ℕ → Term) → ℕ → Term → ℕ → Term
-with_value value at t i = if i == at then t else value i
 
 -- the values after new cells, from a place on
 abbrev pub grown : (ℕ → Term) → ℕ → List Cell → ℕ → Term

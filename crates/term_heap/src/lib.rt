@@ -6,8 +6,6 @@ mod decoding;
 mod heap;
 mod laws;
 mod loading;
-#[cfg(test)]
-mod tests;
 mod trails;
 
 pub use cells::Cell;

@@ -5,7 +5,6 @@ mod InLaws
 mod LeafLists
 mod LeqLaws
 mod Lists
-mod MoreNames
 pub mod NameLoops
 mod Orders
 mod Parts

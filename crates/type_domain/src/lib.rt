@@ -14,6 +14,3 @@ pub use laws::{given_law, monotone_law, order_law, terms_law};
 pub use leaves::has_name;
 pub use lookups::do_meet;
 pub use values::{join, leq, meet, of_atom, of_int, of_name};
-
-#[cfg(test)]
-mod tests;

@@ -10,7 +10,9 @@ use Rattle.term_core.specs.declared.equations.Outcome.TheVariants as outcome
 use Rattle.term_core.specs.Terms.{instance, instance_step, occurs, occurs_step, above, above_step, greatest}
 use Rattle.term_core.specs.Sizes.{size, size_all}
 use Rattle.term_core.specs.Unify.{occurs_in, Unified as EndsIn}
-use Rattle.term_core.specs.Variants.{IsMostGeneral, SameKind, all_instances}
+use Rattle.term_core.specs.Sequences.{InSequence}
+use Rattle.term_core.specs.Variants.{IsMostGeneral, SameKind, EndsAs, all_instances}
+use Rattle.term_core.proofs.AloneLaws.{stays_alone}
 use Rattle.term_core.proofs.TermFolds.{fold-Var, fold-Int, fold-Atom, fold-Node, ind_terms}
 use Rattle.term_core.proofs.TermLaws.{instance-Var, instance-Node, instance-instance, instance-itself, instance_agrees}
 use Rattle.term_core.proofs.Occurrences.{occurs-Node, occurs-Var}
@@ -18,11 +20,8 @@ use Rattle.term_core.proofs.KindLaws.{equation}
 use Rattle.term_heap.specs.Changes.{Change, History, places, size_of, value_of}
 use Rattle.term_heap.specs.Loads.{IsPlaced, from_base}
 use Rattle.unify_core.specs.declared.unifying.Unified.TheVariants as unified
-use Rattle.unify_core.specs.Leads.{EndsAs}
-use Rattle.unify_core.specs.Sequences.{InSequence}
 use Rattle.unify_core.specs.Heads.{head_equations, HasMatched}
 use Rattle.unify_core.specs.Unmet.{IsUnmet, MayMatch, AreMet}
-use Rattle.unify_core.proofs.AloneLaws.{stays_alone}
 use Rattle.unify_core.proofs.MeetLaws.{is_clash}
 
 -- which variables stand in a term

@@ -10,62 +10,18 @@ use Rattle.term_core.specs.declared.terms.Term.TheVariants.{outs-Var, outs-Int, 
 use Rattle.term_core.specs.declared.equations.Equation.{Equation}
 use Rattle.term_core.specs.declared.equations.Binding.{Binding}
 use Rattle.term_core.specs.declared.equations.Outcome.{Outcome}
-use Rattle.term_core.specs.declared.equations.Outcome.TheVariants.{Solved, Clash, Cyclic}
 use Rattle.term_core.specs.Terms.{instance, only, replace}
 use Rattle.term_core.specs.Unify.{pairs, replace_all, Becomes, Binds, Clashes, move, move_at, Open, after, solves}
 use Rattle.term_core.specs.Solutions.{Solves}
 use Rattle.term_core.proofs.TermFolds.{ind_terms}
 use Rattle.term_core.proofs.TermLaws.{instance-Var, instance-instance, instance-itself, replace-absent}
-use Rattle.term_core.specs.Variants.{all_instances, AreVariants, SameKind, IsMostGeneral}
-use Rattle.unify_core.specs.Leads.{EndsAs, Leads, Bindable}
-use Rattle.term_core.proofs.VariantLaws.{all_instances_twice, only_same, only_other, replaced_same, solves_instance}
-use Rattle.term_core.proofs.KindLaws.{equation, EndsSo, kinds}
-
--- kinds of outcomes
-
-pub same_itself : (o : Outcome) → SameKind o o
-same_itself (Solved bs) = tt
-same_itself Clash = tt
-same_itself Cyclic = tt
-
-same_turned : (o p : Outcome) → SameKind o p → SameKind p o
-same_turned (Solved bs) (Solved cs) h = tt
-same_turned Clash Clash h = tt
-same_turned Cyclic Cyclic h = tt
-same_turned (Solved bs) Clash h = absurd h
-same_turned (Solved bs) Cyclic h = absurd h
-same_turned Clash (Solved bs) h = absurd h
-same_turned Clash Cyclic h = absurd h
-same_turned Cyclic (Solved bs) h = absurd h
-same_turned Cyclic Clash h = absurd h
-
-same_then : (o p q : Outcome) → SameKind o p → SameKind p q → SameKind o q
-same_then (Solved bs) (Solved cs) q h k = k_of q k where
-  k_of : (q : Outcome) → SameKind (Solved cs) q → SameKind (Solved bs) q
-  k_of (Solved ds) k = tt
-  k_of Clash k = absurd k
-  k_of Cyclic k = absurd k
-same_then Clash Clash q h k = k
-same_then Cyclic Cyclic q h k = k
-same_then (Solved bs) Clash q h k = absurd h
-same_then (Solved bs) Cyclic q h k = absurd h
-same_then Clash (Solved bs) q h k = absurd h
-same_then Clash Cyclic q h k = absurd h
-same_then Cyclic (Solved bs) q h k = absurd h
-same_then Cyclic Clash q h k = absurd h
-
--- the bindings that were made do not matter, and no more do the names of variables
-pub variants_end : (there back : ℕ → Term) (es es' : List Equation) → AreVariants there back es es' → (bs : List Binding) (o : Outcome) → EndsAs es o → (o' : Outcome) × EndsSo (Open es' bs) o' × SameKind o' o
-variants_end there back es es' are bs o ends =
-    let found = kinds ends.1.0 there back es es' are [] bs ends.0 ends.1.1 in
-    (found.0, found.1, same_then found.0 ends.0 o (same_turned ends.0 found.0 found.2) ends.2)
-
-pub itself : (es : List Equation) → all_instances Var es ≡ es
-itself [] = refl
-itself (e ∷ es) = λ i. record { left = instance-itself e.left i; right = instance-itself e.right i } ∷ itself es i
+use Rattle.term_core.specs.Variants.{all_instances, AreVariants, SameKind, EndsAs, IsMostGeneral}
+use Rattle.unify_core.specs.Leads.{Leads, Bindable}
+use Rattle.term_core.proofs.VariantLaws.{all_instances-itself, all_instances_twice, only_same, only_other, replaced_same, solves_instance}
+use Rattle.term_core.proofs.KindLaws.{equation, EndsSo, variants_end}
 
 rebound : (es : List Equation) (bs : List Binding) (o : Outcome) → EndsAs es o → (o' : Outcome) × EndsSo (Open es bs) o' × SameKind o' o
-rebound es bs o ends = variants_end Var Var es es (record { is_there = itself es; is_back = itself es }) bs o ends
+rebound es bs o ends = variants_end Var Var es es (record { is_there = all_instances-itself es; is_back = all_instances-itself es }) bs o ends
 
 -- the first equation
 

@@ -1,4 +1,3 @@
-mod AloneLaws
 mod HeadLaws
 mod LeadLaws
 mod MatchLaws
@@ -10,6 +9,4 @@ mod PairLaws
 mod PairSizes
 mod PairSteps
 mod ReduceLaws
-mod SequenceLaws
-mod TestPremises
 mod UnifyLaws

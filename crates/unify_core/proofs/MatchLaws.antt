@@ -14,6 +14,7 @@ use Rattle.term_core.specs.Sizes.{size, size_all, size_step}
 use Rattle.term_core.specs.Terms.{instance, instance_step, occurs, only, above, above_step, greatest}
 use Rattle.term_core.specs.Unify.{pairs, Becomes, Clashes, move, move_at, after, Unified as EndsIn}
 use Rattle.term_core.specs.Variants.{IsMostGeneral}
+use Rattle.term_core.proofs.AloneLaws.{binds_first}
 use Rattle.term_core.proofs.TermFolds.{fold-Var, fold-Int, fold-Atom, fold-Node}
 use Rattle.term_core.proofs.TermLaws.{instance-Var, instance-Node}
 use Rattle.term_core.proofs.Occurrences.{occurs-Node, occurs-Var}
@@ -35,7 +36,6 @@ use Rattle.unify_core.specs.declared.matching.Sight.{Sight}
 use Rattle.unify_core.specs.declared.matching.Sight.TheVariants as sight
 use Rattle.unify_core.specs.Meets.{agrees, first_of, is_free}
 use Rattle.unify_core.specs.Unmet.{IsUnmet, MayMatch, AreMet, IsAlike, Seen, IsLike, IsSeen}
-use Rattle.unify_core.proofs.AloneLaws.{binds_first}
 use Rattle.unify_core.proofs.HeadLaws.{is_cycle, parts_placed, above_within}
 use Rattle.unify_core.proofs.MeetLaws.{goes_same, goes_nodes, is_clash}
 

@@ -12,8 +12,8 @@ use Rattle.term_core.specs.Unify.{pairs, Becomes, Binds, Clashes, Cycles, move, 
 use Rattle.term_core.specs.Solutions.{Solves}
 use Rattle.term_core.proofs.TermLaws.{instance-Node}
 use Rattle.term_core.proofs.Occurrences.{occurs-Var}
-use Rattle.term_core.specs.Variants.{SameKind}
-use Rattle.unify_core.specs.Leads.{EndsAs, Leads, Bindable, Goes}
+use Rattle.term_core.specs.Variants.{SameKind, EndsAs}
+use Rattle.unify_core.specs.Leads.{Leads, Bindable, Goes}
 use Rattle.term_core.proofs.VariantLaws.{node_inside}
 use Rattle.term_core.proofs.KindLaws.{equation}
 use Rattle.unify_core.proofs.LeadLaws.{ends_becomes, ends_binds, ends_turned, skips}

@@ -5,13 +5,15 @@ use Rattle.std.specs.List.{list_any}
 use Rattle.std.proofs.lemmas.Bool.{cases_eq, cases_lt, eqb-true, ne_eqb}
 use Rattle.std.proofs.lemmas.List.{length-append, length-set}
 use Rattle.term_core.specs.declared.terms.Term.{Term, Var}
+use Rattle.term_core.specs.Solutions.{with_value}
 use Rattle.term_core.specs.Terms.{occurs, occurs_step}
 use Rattle.term_core.proofs.TermFolds.{fold-Int, fold-Atom}
+use Rattle.term_core.proofs.TermLaws.{with_same, with_other}
 use Rattle.term_core.proofs.Occurrences.{occurs-Node, occurs-Var, occurs-replace}
 use Rattle.term_heap.specs.declared.cells.Cell.{Cell}
 use Rattle.term_heap.specs.declared.cells.Cell.TheVariants.{Free, Ref, Int, Atom, Node}
-use Rattle.term_heap.specs.Changes.{Change, Grows, Binds, places, cells_of, size_of, cell_term, with_value, grown, value_of, NamesBelow, NameBelow, IsMade}
-use Rattle.term_heap.proofs.ValueLaws.{with_same, with_other, grown_below}
+use Rattle.term_heap.specs.Changes.{Change, Grows, Binds, places, cells_of, size_of, cell_term, grown, value_of, NamesBelow, NameBelow, IsMade}
+use Rattle.term_heap.proofs.ValueLaws.{grown_below}
 use Rattle.unify_core.specs.Heads.{AreNew}
 
 -- whether the terms of the places below one have variables below it alone

@@ -6,6 +6,7 @@ use Rattle.term_core.specs.declared.equations.Equation.{Equation}
 use Rattle.term_core.specs.declared.equations.Outcome.TheVariants as outcome
 use Rattle.term_core.specs.Terms.{replace, occurs}
 use Rattle.term_core.specs.Unify.{pairs, Cycles, move, replace_all}
+use Rattle.term_core.specs.Variants.{EndsAs}
 use Rattle.term_core.proofs.TermLaws.{map_map}
 use Rattle.term_heap.specs.declared.cells.Cell.{Cell}
 use Rattle.term_heap.specs.declared.cells.Cell.TheVariants as cell
@@ -14,7 +15,7 @@ use Rattle.term_heap.proofs.ValueLaws.{fits}
 use Rattle.unify_core.specs.declared.pairs.Pair.{Pair}
 use Rattle.unify_core.specs.declared.pairs.Stop.{Stop}
 use Rattle.unify_core.specs.declared.pairs.Stop.TheVariants as stop
-use Rattle.unify_core.specs.Leads.{EndsAs, Leads, Goes, Bindable}
+use Rattle.unify_core.specs.Leads.{Leads, Goes, Bindable}
 use Rattle.unify_core.specs.Meets.{first_of, count_of, is_free, paired, pair_equations, AreRoots, IsVariable, MetRoots}
 use Rattle.unify_core.specs.Reduces.{StandsAt}
 use Rattle.term_core.proofs.KindLaws.{equation}

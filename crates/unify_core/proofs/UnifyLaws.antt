@@ -16,8 +16,8 @@ use Rattle.term_heap.proofs.PastLaws.{serial_after, after_earlier}
 use Rattle.unify_core.specs.declared.pairs.Pair.{Pair}
 use Rattle.unify_core.specs.declared.pairs.Stop.TheVariants as stop
 use Rattle.unify_core.specs.declared.unifying.Unified.TheVariants as unified
-use Rattle.term_core.specs.Variants.{SameKind}
-use Rattle.unify_core.specs.Leads.{EndsAs, Leads}
+use Rattle.term_core.specs.Variants.{SameKind, EndsAs}
+use Rattle.unify_core.specs.Leads.{Leads}
 use Rattle.unify_core.specs.Meets.{is_free, pair_equations, ArePlaces}
 use Rattle.unify_core.specs.Reduces.{Reduced}
 use Rattle.unify_core.specs.Unifies.{places_equation, IsLater, HasUnified}

@@ -6,13 +6,9 @@ use Rattle.term_core.specs.declared.equations.Equation.{Equation}
 use Rattle.term_core.specs.declared.equations.Outcome.{Outcome}
 use Rattle.term_core.specs.declared.terms.Term.{Var}
 use Rattle.term_core.specs.Terms.{instance, occurs}
-use Rattle.term_core.specs.Unify.{Unified, replace_all}
+use Rattle.term_core.specs.Unify.{replace_all}
 use Rattle.term_core.specs.Solutions.{Solves}
-use Rattle.term_core.specs.Variants.{SameKind}
-
--- equations end as this outcome does: solved, by a clash or by a cycle
-abbrev pub EndsAs : List Equation → Outcome → Type 0
-EndsAs es o = (o' : Outcome) × Unified es o' × SameKind o' o
+use Rattle.term_core.specs.Variants.{EndsAs}
 
 -- from the equations at the start, with these values of their variables, these equations are left
 pub record Leads (start : List Equation) (value : ℕ → Term) (left : List Equation) : Type 0 where

@@ -3,6 +3,5 @@ pub mod Leads
 pub mod Meets
 pub mod Places
 pub mod Reduces
-pub mod Sequences
 pub mod Unifies
 pub mod Unmet

@@ -9,11 +9,10 @@ ghost use Rattle.term_heap.specs.PastStays.{GoesOn};
 ghost use Rattle.unify_core.specs.Heads.{HasMatched, AreNew};
 ghost use Rattle.unify_core.specs.Unmet.{MayMatch, AreMet, Seen, IsSeen};
 
-use crate::laws::sequence_law;
 use crate::pairs::{agree, block, is_free};
 use crate::unifying::{Unified, unify};
 use std::alloc::Global;
-use term_core::{NoMemory, Term};
+use term_core::{NoMemory, Term, sequence_law};
 use term_heap::{Cell, Heap};
 
 // Raises a number above each variable of a term.

@@ -3,7 +3,6 @@ ghost use Rattle.std.specs.Prelude.{◌≡◌, ℕ, true, List, not, [], ◌∷�
 ghost use Rattle.std.specs.List.{list_any};
 ghost use Rattle.term_core.specs.declared.terms.Term.{out-Term};
 ghost use Rattle.term_core.specs.Shapes.{parts_of};
-ghost use Rattle.sld_engine.specs.Built.{is_built};
 ghost use Rattle.ciao_top.specs.Keys.{key_of};
 ghost use Rattle.ciao_top.specs.SentenceTerms.{goals_of, clause_goals};
 ghost use Rattle.ciao_top.specs.Linked.{with_key, keys_with, pred_number, is_defined, call_of, goal_of, body_of, clause_of, is_clause_of, clauses_of, keys_of, unit_conditions, pred_with, program_with, program_of, names_undefined, sentence_line, undefined_lines, least, NamesUndefined};
@@ -383,7 +382,6 @@ pub(crate) fn link(alloc: Global, unit: Unit) -> Result<Linked, FileFault>
     ensures program { IfOk result (λ linked. linked.program ≡ program_of unit) }
     ensures ops { IfOk result (λ linked. linked.ops ≡ unit.ops) }
     ensures linked { IfOk result (λ linked. IsProgramLinked linked.program) }
-    ensures built { IfOk result (λ linked. is_built linked.program ≡ true) }
     ensures err { IfErr result (Faults (NamesUndefined unit)) }
 {
     let keys = keys_of(alloc, unit.sentences.as_slice())?;

@@ -22,14 +22,16 @@ struct GivenOption<'a> {
     value: &'a [u8],
 }
 
-// What a word is, where no `--` stands before it and no option takes it as its value.
+// What one word is by itself. It is asked of no word behind `--`, and of none that is the value of the option before it.
 #[derive(Clone, Copy, Drop)]
 enum WordUse<'a> {
+    // `--`: each word behind it is positional.
     Separator,
-    // It takes the next word as its value.
+    // The name of an option, `--x`, whose value is the next word.
     Name,
+    // An option with its value, `--x=v`.
     Given(GivenOption<'a>),
-    // Another word that begins with `-`, which is refused.
+    // None of these, but of two bytes or more with `-` first: it is refused.
     Dashed,
     Positional,
 }

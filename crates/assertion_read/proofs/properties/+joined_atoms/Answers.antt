@@ -1,5 +1,5 @@
 use Rattle.std.proofs.Common.{sym, ◌∙◌}
-use Rattle.term_operands.proofs.OperandLaws.{left_says_none, right_says_none, both_say}
+use Rattle.term_core.proofs.OperandLaws.{left_says_none, right_says_none, both_say}
 use Rattle.term_core.specs.Shapes.{atom_at}
 use Rattle.assertion_read.proofs.properties.+joined_atoms.Goals as goal
 

@@ -1,5 +1,5 @@
 use Rattle.std.proofs.Common.{sym, ◌∙◌}
-use Rattle.term_operands.proofs.OperandLaws.{alone_says_none, alone_says, left_says_none, right_says_none, both_say}
+use Rattle.term_core.proofs.OperandLaws.{alone_says_none, alone_says, left_says_none, right_says_none, both_say}
 use Rattle.assertion_read.specs.Properties.{property_at}
 use Rattle.assertion_read.proofs.properties.+joined_properties.Goals as goal
 

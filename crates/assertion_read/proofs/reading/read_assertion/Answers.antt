@@ -1,5 +1,5 @@
 use Rattle.std.proofs.Common.{refl, sym, ◌∙◌}
-use Rattle.term_operands.proofs.OperandLaws.{none_part}
+use Rattle.term_core.proofs.OperandLaws.{none_part}
 use Rattle.assertion_read.proofs.RangeLaws.{stays_in_range}
 use Rattle.assertion_read.proofs.reading.read_assertion.Goals as goal
 

@@ -17,6 +17,6 @@ returns-in-None-called_by-clause-err c = (
 
 pub returns-clause-linked : goal.returns-clause-linked
 returns-clause-linked c = record {
-  program = more_names c.program_ranges_law.ensures c.args.linked.program c.read_query.new.names c.in_ok-read_query.ensures.kept c.requires.linked;
+  program = more_names c.program_ranges_law.ensures c.args.linked.program c.read_query.new.names c.in_ok-read_query.ensures.kept c.requires;
   named = MatchOption-at_some _ _ _ c.in-Some.is c.in_ok-read_query.ensures.in_range;
 }

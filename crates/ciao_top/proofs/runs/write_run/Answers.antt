@@ -8,7 +8,7 @@ use Rattle.ciao_top.proofs.RunEnds.{fewer_left}
 use Rattle.ciao_top.proofs.runs.write_run.Goals as goal
 
 pub events-init : goal.events-init
-events-init g c = record { so_far = nothing_written _ _; sink = stays _ _; program = c.requires; bound = refl }
+events-init g c = record { so_far = nothing_written _ _; sink = stays _ _; program = c.requires.program; reading = c.requires.reading; bound = refl }
 
 pub events-preserved : goal.events-preserved
 events-preserved g c = record {
@@ -17,6 +17,7 @@ events-preserved g c = record {
       c.events.invariant.bound c.in-None.ensures.told);
   sink = goes_on_twice _ _ _ _ _ _ c.events.invariant.sink c.write_next.ensures.sink;
   program = c.write_next.ensures.program;
+  reading = c.write_next.ensures.reading;
   bound = c.write_next.ensures.bound ∙ c.events.invariant.bound;
 }
 

@@ -1,9 +1,14 @@
-use Rattle.std.proofs.Common.{◌≤◌, length, drop}
-use Rattle.engine_state.specs.Newest.{AreElsewhere}
+use Rattle.std.proofs.Common.{◌≤◌, ◌<◌, ◌-◌, length, take, drop}
+use Rattle.std.specs.List.{AllByRecursion}
 use Rattle.engine_state.proofs.marks.place_at.Given as goal
 
-abbrev pub invariant-loop-left : goal.invariant-loop-left
-invariant-loop-left l = record { within : l.left ≤ length l.points; others : AreElsewhere l.height (drop l.left l.points) }
+abbrev pub invariant-halves : goal.invariant-halves
+invariant-halves l = record {
+  ends : l.low ≤ l.high;
+  within : l.high ≤ length l.points;
+  lower : AllByRecursion (λ p. p.below < l.height) (take l.low l.points);
+  upper : AllByRecursion (λ p. l.height < p.below) (drop l.high l.points);
+}
 
-abbrev pub decreases-loop-left : goal.decreases-loop-left
-decreases-loop-left l = l.left
+abbrev pub decreases-halves : goal.decreases-halves
+decreases-halves l = l.high - l.low

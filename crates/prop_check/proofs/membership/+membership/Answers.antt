@@ -35,4 +35,4 @@ belong_each-belongs_within-requires t c =
 
 pub belongs_within-loop-rule-init : goal.belongs_within-loop-rule-init
 belongs_within-loop-rule-init t c =
-    ap (list_any (passes c.args.steps c.args.grammar.now c.args.term.now)) c.rules_of-rule-items.ensures ∙ sym (rules_pass c.args.grammar.now c.args.term.now c.args.steps c.args.name)
+    ap (list_any (passes (admits c.args.grammar.now c.args.term.now) c.args.steps c.args.grammar.now)) c.rules_of-rule-items.ensures ∙ sym (rules_pass c.args.grammar.now (admits c.args.grammar.now c.args.term.now) c.args.steps c.args.name)

@@ -25,4 +25,4 @@ invariant-belong_each-loop-index l = record {
 }
 
 abbrev pub invariant-belongs_within-loop-rule : goal.invariant-belongs_within-loop-rule
-invariant-belongs_within-loop-rule l = list_any (passes l.steps l.grammar l.term) (drop l.rule-index l.rule-items) ≡ list_any (admits l.grammar l.term) (leaves_within l.steps l.grammar l.name)
+invariant-belongs_within-loop-rule l = list_any (passes (admits l.grammar l.term) l.steps l.grammar) (drop l.rule-index l.rule-items) ≡ list_any (admits l.grammar l.term) (leaves_within l.steps l.grammar l.name)

@@ -1,6 +1,6 @@
 use Rattle.std.proofs.Common.{map, ap, ◌∙◌}
 use Rattle.term_core.specs.declared.terms.Term.{out-Term}
-use Rattle.term_operands.specs.Operands.{all_said}
+use Rattle.term_core.specs.Operands.{all_said}
 use Rattle.regtype_grammar.specs.TypeClauses.{literal_at}
 use Rattle.regtype_grammar.proofs.literals.joined_literals.Goals as goal
 

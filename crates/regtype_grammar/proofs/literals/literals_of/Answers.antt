@@ -2,7 +2,7 @@ use Rattle.std.proofs.Common.{◌+◌, drop, map, sym, ◌∙◌}
 use Rattle.std.proofs.lemmas.List.{at_drop_all}
 use Rattle.term_core.proofs.Turns.{turn}
 use Rattle.term_core.specs.declared.terms.Term.{out-Term}
-use Rattle.term_operands.specs.Operands.{all_said}
+use Rattle.term_core.specs.Operands.{all_said}
 use Rattle.regtype_grammar.specs.TypeClauses.{literal_at}
 use Rattle.regtype_grammar.proofs.SayingLoop.{put_before, said_turn, said_end, said_none}
 use Rattle.regtype_grammar.proofs.literals.literals_of.Goals as goal

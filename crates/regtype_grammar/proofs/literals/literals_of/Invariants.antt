@@ -1,6 +1,6 @@
 use Rattle.std.proofs.Common.{◌≡◌, drop, map}
 use Rattle.term_core.specs.declared.terms.Term.{out-Term}
-use Rattle.term_operands.specs.Operands.{all_said}
+use Rattle.term_core.specs.Operands.{all_said}
 use Rattle.regtype_grammar.specs.TypeClauses.{literal_at}
 use Rattle.regtype_grammar.proofs.SayingLoop.{put_before}
 use Rattle.regtype_grammar.proofs.literals.literals_of.Given as goal

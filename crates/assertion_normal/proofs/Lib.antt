@@ -1,0 +1,12 @@
+mod GrownLaws
+mod OrderLaws
+mod EachLaws
+mod AskedLaws
+mod SettledLaws
+mod TurnLaws
+mod ConditionRanges
+mod NumberLaws
+mod TroubleLaws
+mod OwnTroubles
+mod GrowingRanges
+mod FirstTroubles

@@ -1,0 +1,13 @@
+pub mod IndexLaws
+pub mod Themselves
+pub mod SoonerLaws
+pub mod GrowLaws
+pub mod TermRanges
+pub mod ListNames
+pub mod TableRows
+pub mod GoalRanges
+pub mod ClauseRanges
+pub mod ConjunctionLaws
+pub mod Measures
+pub mod Outcomes
+pub mod FirstProblems

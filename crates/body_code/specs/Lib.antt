@@ -1,0 +1,9 @@
+pub mod Scopes
+pub mod Indexes
+pub mod Problems
+pub mod Making
+pub mod Bodies
+pub mod Conjunctions
+pub mod Clauses
+pub mod Ranges
+pub mod Laws

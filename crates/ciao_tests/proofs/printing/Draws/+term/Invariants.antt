@@ -1,8 +1,0 @@
-use Rattle.std.proofs.Common.{◌<◌}
-use Rattle.ciao_tests.proofs.printing.Draws.+term.Given as goal
-
-abbrev pub decreases-term : goal.decreases-term
-decreases-term l = l.depth
-
-abbrev pub invariant-loop : goal.invariant-loop
-invariant-loop l = l.below < l.fn.depth

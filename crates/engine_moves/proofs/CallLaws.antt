@@ -1,0 +1,222 @@
+-- A call that is made.
+use Rattle.std.proofs.Common.{◌≡◌, ◌≤◌, ◌<◌, ◌+◌, ◌-◌, ◌^◌, ℕ, suc, min, false, List, [], ◌∷◌, ◌++◌, map, length, drop, Option, Some, None, refl, sym, ap, subst, ◌∙◌, arith}
+use Rattle.std.proofs.lemmas.List.{length-append, length-drop, length-take-le}
+use Rattle.std.specs.Prelude.{Vec}
+use Rattle.std.specs.declared.alloc.Global.{Global}
+use Rattle.prog_data.specs.declared.events.Ending.{Ending}
+use Rattle.prog_data.specs.declared.events.Ending.TheVariants as ending
+use Rattle.prog_data.specs.declared.events.Event.TheVariants.{Broken}
+use Rattle.prog_data.specs.declared.goals.Goal as goal
+use Rattle.prog_data.specs.declared.programs.Clause.{Clause}
+use Rattle.prog_data.specs.declared.programs.Place.{Place}
+use Rattle.prog_data.specs.Goals.{pred_of}
+use Rattle.machine_model.specs.State.{Call, Choice, Failed, Going}
+use Rattle.machine_model.specs.Step.{tries, with_mark, mark_height}
+use Rattle.machine_model.specs.LeanerLaws.{LeanerStatesAreFound, call_above}
+use Rattle.term_heap.specs.Changes.{size_of, value_of, places}
+use Rattle.prop_check.specs.Places.{row_at}
+use Rattle.engine_state.specs.declared.engine.Engine as code
+use Rattle.engine_state.specs.declared.findings.Counted.{Counted}
+use Rattle.engine_state.specs.declared.tasks.Row.{Row}
+use Rattle.engine_state.specs.declared.tasks.Exit as code_exit
+use Rattle.engine_state.specs.declared.points.Alternative.TheVariants as code_alternative
+use Rattle.engine_state.specs.declared.stages.Stage.TheVariants as stage
+use Rattle.engine_state.specs.Engines.{Pending, Retries, frame_with, alternative_choices, as_state}
+use Rattle.engine_state.specs.Views.{row_of, as_links, as_exit, as_alternative}
+use Rattle.engine_state.specs.Notes.{IsRowWithin, NotesStay}
+use Rattle.engine_state.specs.Moments.{MomentsStay, MomentsGive}
+use Rattle.engine_state.specs.PointMoves.{PointsPushed}
+use Rattle.engine_state.specs.Tested.{tested_trace}
+use Rattle.engine_state.specs.Findings.{IsAdded, HasAdded}
+use Rattle.engine_state.specs.Moves.{Makes, MovesCompose}
+use Rattle.engine_state.specs.StepsMade.{found_at_call, CallsMake}
+use Rattle.engine_state.specs.Stages.{as_engine, choices_at, tasks_at, frame_now, IsKept, IsWhole}
+use Rattle.engine_state.specs.Turns.{GoesTo}
+use Rattle.engine_moves.specs.declared.calls.Noted.{Noted}
+use Rattle.engine_moves.specs.declared.looking.Kind.{Kind}
+use Rattle.engine_moves.specs.declared.looking.Kind.TheVariants.{Success, Comp}
+use Rattle.engine_moves.specs.declared.readings.Reading.{Reading}
+use Rattle.engine_moves.specs.Readings.{tests_by}
+use Rattle.engine_moves.specs.Turned.{HasTurned}
+use Rattle.engine_moves.specs.Looking.{looks_by, IsNoted}
+use Rattle.engine_moves.specs.Calling.{terms_at, call_state, looked_at, noted_at, HasNoted, HasMarked, call_now, after_tests_at, HasCalled}
+use Rattle.engine_moves.proofs.GoingOn.{goes_on, stays, looked_same, noted_same}
+use Rattle.engine_moves.proofs.NotesTaken.{added_row, goes_noted}
+use Rattle.engine_moves.proofs.TurnLaws.{over_turn, ended_turn, open_turn}
+
+-- notes
+
+pub has_noted : (reading : Reading) (kind : Kind) (pred : ℕ) (args : Row) (e : code.Engine) → IsKept e → NotesStay → MomentsStay e.program.now → MomentsGive e.program.now → (notes : Vec ℕ Global) (first count tests : ℕ) →
+    IsNoted e.program.now (terms_at e args) (looked_at e reading kind pred) e.notes.items notes.items tests → first ≡ length e.notes.items → count ≡ length notes.items - first →
+    HasNoted reading kind pred args e (record { row = record { first = first; count = count }; tests = tests }) (record e { notes = notes })
+has_noted reading kind pred args e kept notes_stay moments give notes first count tests is start many =
+    let more = noted_at e reading kind pred args in
+    let size : length e.notes.items ≤ length notes.items = omega (arith, ap length is.notes_are, length-append e.notes.items more) in
+    record {
+      goes = goes_noted e kept notes_stay moments give notes more is.notes_are;
+      within = omega (arith, start, many, size);
+      row_is = added_row e.notes.items notes.items more first count is.notes_are start many;
+      tests_are = is.tests_are;
+    }
+
+-- marks
+
+-- a row has as many notes as it says
+row_length : (notes : List ℕ) (row : Row) → IsRowWithin (length notes) row → length (row_of notes row) ≡ row.count
+row_length notes row within =
+    let left : length (drop row.first notes) ≡ length notes - row.first = length-drop row.first notes in
+    length-take-le row.count (drop row.first notes) (omega (arith, left, within))
+
+none_in : (conds : List ℕ) → length conds ≡ 0 → conds ≡ []
+none_in [] e = refl
+none_in (c ∷ conds) e = absurd (omega (arith, e))
+
+height_is : (conds : List ℕ) (cs : List Choice) (h : ℕ) → (conds ≡ [] → ⊥) → h ≡ length cs → Some h ≡ mark_height conds cs
+height_is [] cs h some is = absurd (some refl)
+height_is (c ∷ conds) cs h some is = ap (λ n. Some n) is
+
+pub not_marked : (e : code.Engine) (pred : ℕ) (row : Row) → IsKept e → IsRowWithin (length e.notes.items) row → row.count ≡ 0 → HasMarked e pred (row_of e.notes.items row) None e
+not_marked e pred row kept within none =
+    let empty : row_of e.notes.items row ≡ [] = none_in (row_of e.notes.items row) (row_length e.notes.items row within ∙ none) in
+    subst (λ conds. HasMarked e pred conds None e) (sym empty) (record { goes = stays e (length e.links.items) kept (omega arith); mark_is = refl })
+
+pub is_marked : PointsPushed → (e new : code.Engine) (pred : ℕ) (row : Row) (height : ℕ) → IsRowWithin (length e.notes.items) row → (row.count ≡ 0 → ⊥) → height ≡ length (choices_at e) →
+    GoesTo e (length e.links.items) (alternative_choices (value_of e.heap.changes) (as_links e.notes.items e.links.items) e.query (as_alternative e.notes.items (code_alternative.Marks pred row false)) ++ choices_at e) new →
+    HasMarked e pred (row_of e.notes.items row) (Some height) new
+is_marked pushed e new pred row height within some is goes =
+    let conds = row_of e.notes.items row in
+    let not_empty : conds ≡ [] → ⊥ = λ empty. some (sym (row_length e.notes.items row within) ∙ ap length empty) in
+    record {
+      goes = subst (λ cs. GoesTo e (length e.links.items) cs new) (pushed.marked (value_of e.heap.changes) (as_links e.notes.items e.links.items) e.query pred conds (choices_at e) not_empty) goes;
+      mark_is = height_is conds (choices_at e) height not_empty is;
+    }
+
+-- clauses
+
+no_tries : (clauses : List Clause) (call : Call) → length clauses ≡ 0 → tries 0 clauses call ≡ []
+no_tries [] call e = refl
+no_tries (c ∷ clauses) call e = absurd (omega (arith, e))
+
+pub no_clauses : (e : code.Engine) (exit : code_exit.Exit) (rest : ℕ) → IsKept e → length (pred_of e.program.now exit.pred).clauses ≡ 0 →
+    GoesTo e (length e.links.items) (tries 0 (pred_of e.program.now exit.pred).clauses (call_now e exit rest) ++ choices_at e) e
+no_clauses e exit rest kept none =
+    subst (λ ts. GoesTo e (length e.links.items) (ts ++ choices_at e) e) (sym (no_tries (pred_of e.program.now exit.pred).clauses (call_now e exit rest) none)) (stays e (length e.links.items) kept (omega arith))
+
+pub some_clauses : PointsPushed → (e new : code.Engine) (exit : code_exit.Exit) (rest count height : ℕ) → count ≡ length (pred_of e.program.now exit.pred).clauses → height ≡ length (choices_at e) →
+    GoesTo e (length e.links.items) (alternative_choices (value_of e.heap.changes) (as_links e.notes.items e.links.items) e.query (as_alternative e.notes.items (code_alternative.Retries 0 count (record { exit = exit; height = height; rest = rest }))) ++ choices_at e) new →
+    GoesTo e (length e.links.items) (tries 0 (pred_of e.program.now exit.pred).clauses (call_now e exit rest) ++ choices_at e) new
+some_clauses pushed e new exit rest count height many is goes =
+    let clauses = (pred_of e.program.now exit.pred).clauses in
+    let value = value_of e.heap.changes in
+    let links = as_links e.notes.items e.links.items in
+    let pending : Pending = record { exit = as_exit e.notes.items exit; height = length (choices_at e); rest = rest } in
+    let left : count - 0 ≡ length clauses = omega (arith, many) in
+    let same : alternative_choices value links e.query (as_alternative e.notes.items (code_alternative.Retries 0 count (record { exit = exit; height = height; rest = rest }))) ≡ tries 0 clauses (call_now e exit rest) =
+    (λ i. alternative_choices value links e.query (Retries (places 0 (left i)) (record { exit = as_exit e.notes.items exit; height = is i; rest = rest })))
+    ∙ sym (pushed.clauses value links e.query pending clauses) in
+    subst (λ ts. GoesTo e (length e.links.items) (ts ++ choices_at e) new) same goes
+
+-- all of it
+
+module _ (reading : Reading) (pred : ℕ) (args : Row) (rest : ℕ) (e0 e1 e2 e3 : code.Engine) (marked : Noted) (mark : Option ℕ)
+    (lets_go : GoesTo e0 rest (choices_at e0) e1) (notes_marks : HasNoted reading Comp pred args e1 marked e2) (makes_mark : HasMarked e2 pred (row_of e2.notes.items marked.row) mark e3) where
+  abbrev conds2 : List ℕ
+  conds2 = row_of e2.notes.items marked.row
+
+  abbrev conds0 : List ℕ
+  conds0 = noted_at e0 reading Comp pred args
+
+  abbrev notes0 : List ℕ
+  notes0 = noted_at e0 reading Success pred args
+
+  abbrev below0 : List Choice
+  below0 = with_mark pred conds0 (choices_at e0)
+
+  abbrev call0 : Call
+  call0 = call_above (choices_at e0) pred (terms_at e0 args) notes0 conds0 (frame_now e0 (tasks_at e0 rest))
+
+  to_second : GoesTo e0 rest (choices_at e1) e2
+  to_second = goes_on e0 e1 e2 rest (length e1.links.items) (choices_at e0) (choices_at e1) lets_go notes_marks.goes lets_go.there
+
+  pub to_third : GoesTo e0 rest (with_mark pred conds2 (choices_at e2)) e3
+  to_third = goes_on e0 e2 e3 rest (length e2.links.items) (choices_at e1) (with_mark pred conds2 (choices_at e2)) to_second makes_mark.goes to_second.there
+
+  second_choices : choices_at e2 ≡ choices_at e0
+  second_choices = notes_marks.goes.choices_are ∙ lets_go.choices_are
+
+  conds_are : conds2 ≡ conds0
+  conds_are = notes_marks.row_is ∙ noted_same e0 e1 rest (choices_at e0) lets_go reading Comp pred args
+
+  third_choices : choices_at e3 ≡ below0
+  third_choices = makes_mark.goes.choices_are ∙ (λ i. with_mark pred (conds_are i) (second_choices i))
+
+  mark_is : mark ≡ mark_height conds0 (choices_at e0)
+  mark_is = makes_mark.mark_is ∙ (λ i. mark_height (conds_are i) (second_choices i))
+
+  module _ (e4 : code.Engine) (noted : Noted) (takes_notes : HasNoted reading Success pred args e3 noted e4) where
+    abbrev exit : code_exit.Exit
+    exit = record { pred = pred; args = args; noted = noted.row; mark = mark }
+
+    pub to_fourth : GoesTo e0 rest (choices_at e3) e4
+    to_fourth = goes_on e0 e3 e4 rest (length e3.links.items) (with_mark pred conds2 (choices_at e2)) (choices_at e3) to_third takes_notes.goes to_third.there
+
+    fourth_choices : choices_at e4 ≡ below0
+    fourth_choices = takes_notes.goes.choices_are ∙ third_choices
+
+    notes_are : row_of e4.notes.items noted.row ≡ notes0
+    notes_are = takes_notes.row_is ∙ noted_same e0 e3 rest (with_mark pred conds2 (choices_at e2)) to_third reading Success pred args
+
+    call_is : call_now e4 exit rest ≡ call0
+    call_is = λ i. record {
+      pred = pred;
+      args = row_at ((to_fourth.heap i).changes) args.first args.count;
+      noted = notes_are i;
+      mark = mark_is i;
+      height = length (fourth_choices i);
+      rest = frame_with (value_of ((to_fourth.heap i).changes)) (to_fourth.tasks rest (omega arith) i) (to_fourth.query i);
+    }
+
+    module _ (e5 : code.Engine) (adds : GoesTo e4 (length e4.links.items) (tries 0 (pred_of e4.program.now pred).clauses (call_now e4 exit rest) ++ choices_at e4) e5) where
+      pub to_fifth : GoesTo e0 rest (tries 0 (pred_of e4.program.now pred).clauses (call_now e4 exit rest) ++ choices_at e4) e5
+      to_fifth = goes_on e0 e4 e5 rest (length e4.links.items) (choices_at e3) (tries 0 (pred_of e4.program.now pred).clauses (call_now e4 exit rest) ++ choices_at e4) to_fourth adds to_fourth.there
+
+      fifth_choices : choices_at e5 ≡ tries 0 (pred_of e0.program.now pred).clauses call0 ++ below0
+      fifth_choices = to_fifth.choices_are ∙ (λ i. tries 0 (pred_of (to_fourth.program i) pred).clauses (call_is i) ++ fourth_choices i)
+
+      pub has_called : (bound tests : ℕ) → tests ≡ min (noted.tests + marked.tests) (2 ^ 64 - 1) → HasCalled reading bound pred args rest e0 tests (record e5 { calls = e5.calls + 1 })
+      has_called bound tests sum =
+          let one_more : suc e0.calls ≡ e5.calls + 1 = omega (arith, to_fifth.calls) in
+          let same_notes = ap length (looked_same e0 e3 rest (with_mark pred conds2 (choices_at e2)) to_third reading Success pred) in
+          let same_marks = ap length (looked_same e0 e1 rest (choices_at e0) lets_go reading Comp pred) in
+          record {
+            program = to_fifth.program;
+            kept = record { in_range = to_fifth.kept.in_range; counted = to_fifth.kept.counted; moments = to_fifth.kept.moments };
+            phase_is = λ i. Going (record { calls = one_more i; fresh = size_of ((sym to_fifth.heap i).changes); choices = sym fifth_choices i; current = Failed });
+            tests_are = omega (arith, sum, takes_notes.tests_are, notes_marks.tests_are, same_notes, same_marks);
+          }
+
+-- the turn
+
+module _ (reading : Reading) (bound : ℕ) (e : code.Engine) (pred : ℕ) (args : Row) (height : ℕ) (place : Place) (rest : ℕ) (compose : MovesCompose (tests_by e.program.now reading) e.program.now bound)
+    (make : CallsMake (tests_by e.program.now reading) e.program.now bound e.calls (size_of e.heap.changes) (choices_at e)) where
+  pub refused : (told : List ℕ) → told ≡ [] → bound ≤ e.calls → HasTurned reading bound e (call_state e pred args height place rest) (map Broken told) 0 e (stage.Over ending.Bound)
+  refused told none le =
+      over_turn reading e (call_state e pred args height place rest) bound compose told ending.Bound none
+      (make.refused (goal.Call pred (terms_at e args)) pred (terms_at e args) height place (frame_now e (tasks_at e rest)) refl le)
+
+  module _ (none told : List ℕ) (is_none : none ≡ []) (less : e.calls < bound) (counted : Counted)
+      (tested : HasAdded (tests_by e.program.now reading).stops 1 (found_at_call e.program.now (terms_at e args)) (looks_by e.program.now reading pred).calls none told counted.tests counted.ended) where
+    makes : Makes (tests_by e.program.now reading) e.program.now bound (call_state e pred args height place rest) (tested_trace tested.r (after_tests_at reading bound e pred args rest))
+    makes = make.tested (goal.Call pred (terms_at e args)) pred (terms_at e args) height place (frame_now e (tasks_at e rest)) tested.r refl less tested.has
+
+    pub broken : (end : Ending) → counted.ended ≡ Some end → HasTurned reading bound e (call_state e pred args height place rest) (map Broken told) counted.tests e (stage.Over end)
+    broken end is =
+        ended_turn reading e (call_state e pred args height place rest) bound compose tested.r (after_tests_at reading bound e pred args rest) none told counted.tests end is_none
+        (subst (λ o. IsAdded none 0 tested.r told counted.tests o) is tested.added) makes
+
+    pub called : (new : code.Engine) (looked total : ℕ) → counted.ended ≡ None → HasCalled reading bound pred args rest e looked new → total ≡ min (counted.tests + looked) (2 ^ 64 - 1) → LeanerStatesAreFound → IsWhole e (stage.Calling pred args height place rest) →
+        HasTurned reading bound e (call_state e pred args height place rest) (map Broken told) total new stage.Failed
+    called new looked total is made sum found whole =
+        open_turn reading e (call_state e pred args height place rest) bound compose tested.r (after_tests_at reading bound e pred args rest) none told counted.tests total new (as_state (as_engine new) Failed) stage.Failed is_none
+        (subst (λ o. IsAdded none 0 tested.r told counted.tests o) is tested.added) makes refl made.phase_is (omega (arith, sum, made.tests_are, tested.added.tests_are)) made.program refl found whole.kept.in_range whole.own tt
+        (λ own. record { kept = made.kept; own = own; in_hand = tt })

@@ -1,0 +1,13 @@
+pub mod Answers
+pub mod BuiltinEffects
+pub mod Calling
+pub mod Exiting
+pub mod Failures
+pub mod Linked
+pub mod Looking
+pub mod Readings
+pub mod Relied
+pub mod SamePairs
+pub mod Texts
+pub mod Tries
+pub mod Turned

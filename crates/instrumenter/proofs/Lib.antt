@@ -1,0 +1,4 @@
+pub mod Checks
+mod Lists
+mod CheckRanges
+mod ProgramRanges

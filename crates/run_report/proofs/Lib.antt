@@ -1,0 +1,5 @@
+mod LibraryNames
+mod Loops
+mod Sets
+mod BuiltinNames
+mod KeptConditions

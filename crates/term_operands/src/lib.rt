@@ -1,8 +1,0 @@
-//! The terms that an operator joins in a term.
-#![tactic(auto)]
-
-mod operands;
-#[cfg(test)]
-mod tests;
-
-pub use operands::conjuncts;
