@@ -6,7 +6,7 @@ use std::alloc::AllocError;
 use term_core::NoMemory;
 
 /// The name and the number of arguments of a predicate (ISO/IEC 13211-1, predicate indicator).
-#[derive(Clone, Copy, Drop, Debug)]
+#[derive(Clone, Copy, Drop, Debug, PartialEq, Eq, Hash)]
 pub struct Indicator {
     pub name: u64,
     pub arity: u64,
