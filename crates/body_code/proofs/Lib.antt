@@ -1,13 +1,13 @@
-pub mod IndexLaws
-pub mod Themselves
-pub mod SoonerLaws
-pub mod GrowLaws
-pub mod TermRanges
-pub mod ListNames
-pub mod TableRows
-pub mod GoalRanges
-pub mod ClauseRanges
-pub mod ConjunctionLaws
-pub mod Measures
-pub mod Outcomes
-pub mod FirstProblems
+mod IndexLaws
+mod Themselves
+mod SoonerLaws
+mod GrowLaws
+mod TermRanges
+mod ListNames
+mod TableRows
+mod GoalRanges
+mod ClauseRanges
+mod ConjunctionLaws
+mod Measures
+mod Outcomes
+mod FirstProblems

@@ -1,4 +1,4 @@
-pub mod Checks
+mod Checks
 mod Lists
 mod CheckRanges
 mod ProgramRanges
