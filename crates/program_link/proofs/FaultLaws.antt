@@ -1,0 +1,19 @@
+-- The first of faults that are found one list after the other.
+use Rattle.std.proofs.Common.{◌≡◌, ℕ, ◌+◌, ◌<◌, List, [], ◌∷◌, ◌++◌, length, get_or, drop, Option, Some, refl, ap, sym, ◌∙◌}
+use Rattle.std.specs.Prelude.{flat_map}
+use Rattle.term_core.proofs.Turns.{turn}
+use Rattle.program_link.specs.FaultOrder.{sooner, least_from}
+use Rattle.program_link.specs.declared.faults.Fault.{Fault}
+
+-- those behind others
+pub least_behind : (found : Option Fault) (fs gs : List Fault) → least_from found (fs ++ gs) ≡ least_from (least_from found fs) gs
+least_behind found [] gs = refl
+least_behind found (f ∷ fs) gs = least_behind (sooner found (Some f)) fs gs
+
+-- a turn of a loop over what has faults
+pub least_next : {X : Type 0} (faults : X → List Fault) (old new : Option Fault) (xs : List X) (i : ℕ) (x : X) → i < length xs → x ≡ get_or xs i x → new ≡ least_from old (faults x)
+    → least_from new (flat_map faults (drop (i + 1) xs)) ≡ least_from old (flat_map faults (drop i xs))
+least_next faults old new xs i x lt e is =
+    ap (λ o. least_from o (flat_map faults (drop (i + 1) xs))) is
+    ∙ sym (least_behind old (faults x) (flat_map faults (drop (i + 1) xs)))
+    ∙ sym (turn (λ ys. least_from old (flat_map faults ys)) xs i x lt e)

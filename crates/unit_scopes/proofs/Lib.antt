@@ -1,0 +1,5 @@
+mod GroupLaws
+mod IndexLaws
+mod NumberLaws
+mod ReadLaws
+mod SourceLaws
