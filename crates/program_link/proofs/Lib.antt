@@ -1,2 +1,3 @@
 mod FaultLaws
 mod LeastLaws
+mod Untroubled
