@@ -117,7 +117,7 @@ module _ (names : List Word) (files : List File) (sources : List Source) (held :
   left_same (u ∷ us) at h =
       ap (λ fs. fs ++ held_from names sources (settings files) (suc at) us)
       (place_same at (file_of u) (slice_get sources at) (slice_get (settings files) at)
-        (subst (λ o. Looks o (slice_get sources at)) here (held at)) (setting_there files 0 files at (file_of u) here at (omega arith)))
+      (subst (λ o. Looks o (slice_get sources at)) here (held at)) (setting_there files 0 files at (file_of u) here at (omega arith)))
       ∙ ap (λ fs. file_faults names files at (file_of u) ++ fs) (left_same us (suc at) behind)
     where
       here : slice_get files at ≡ Some (file_of u)

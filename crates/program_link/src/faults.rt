@@ -3,7 +3,7 @@ ghost use Rattle.std.specs.Prelude.{◌≡◌, Some, None, map, slice_get};
 ghost use Rattle.regtype_grammar.specs.TypeFaults.{refused};
 ghost use Rattle.unit_scopes.specs.Sayings.{file_of};
 ghost use Rattle.unit_scopes.specs.Sources.{AreSources};
-ghost use Rattle.unit_scopes.specs.Settings.{settings};
+ghost use Rattle.unit_scopes.specs.Settings.{settings as settings_of};
 ghost use Rattle.unit_scopes.specs.Imports.{type_modules};
 ghost use Rattle.program_link.specs.FaultOrder.{least_from, least};
 ghost use Rattle.program_link.specs.Faults.{type_faults, all_faults};
@@ -49,7 +49,12 @@ fn least_of_file(
         &source.index,
         source.parts.assertions.as_slice(),
     );
-    least_of_clauses(assertions, at, &setting.scope, source.parts.clauses.as_slice())
+    least_of_clauses(
+        assertions,
+        at,
+        &setting.scope,
+        source.parts.clauses.as_slice(),
+    )
 }
 
 // The same, where its source and its setting are found.
@@ -122,7 +127,7 @@ pub(crate) fn least_fault(
     types: Option<Fault>,
 ) -> Option<Fault>
     requires sources { AreSources 0 0 (map file_of units.now) sources.now }
-    requires settings { settings.now ≡ settings (map file_of units.now) }
+    requires settings { settings.now ≡ settings_of (map file_of units.now) }
     requires types { least_from None (type_faults (refused (type_modules (map file_of units.now)))) ≡ types }
     ensures { result ≡ least (all_faults names.now (map file_of units.now)) }
 {
