@@ -14,8 +14,20 @@ use prog_data::RefusalKind;
 use term_core::{GROUND, LIST, NL, Names, TERM, WRITE, WRITEQ};
 use unit_scopes::{Index, Source, exported};
 
-// The first of a fault and those of named exports without clauses.
-fn least_of_undefined(
+// The first of a fault and that of an export without clauses.
+fn least_of_export(found: Option<Fault>, at: u64, index: &Index, export: Export) -> Option<Fault>
+    ensures { result ≡ least_from found (held_export_faults at index.now export) }
+{
+    let undefined = Fault {
+        unit: at,
+        line: export.line,
+        kind: RefusalKind::Undefined,
+    };
+    sooner_where(found, !index.defines(exported(export)), undefined)
+}
+
+// The first of a fault and those of named exports.
+fn least_of_listed(
     found: Option<Fault>,
     at: u64,
     index: &Index,
@@ -25,12 +37,7 @@ fn least_of_undefined(
 {
     let mut least = found;
     for export in exports {
-        let undefined = Fault {
-            unit: at,
-            line: export.line,
-            kind: RefusalKind::Undefined,
-        };
-        least = sooner_where(least, !index.defines(exported(*export)), undefined);
+        least = least_of_export(least, at, index, *export);
     }
     least
 }
@@ -45,8 +52,8 @@ pub(crate) fn least_of_exports(
     ensures { result ≡ least_from found (flat_map (held_export_faults at index.now) (exports_of exports.now)) }
 {
     match exports {
-        Exports::All(named) => least_of_undefined(found, at, index, named.as_slice()),
-        Exports::Listed(named) => least_of_undefined(found, at, index, named.as_slice()),
+        Exports::All(named) => least_of_listed(found, at, index, named.as_slice()),
+        Exports::Listed(named) => least_of_listed(found, at, index, named.as_slice()),
     }
 }
 
@@ -89,7 +96,31 @@ fn is_offered(names: &Names, sources: &[Source], at: u64, indicator: Indicator) 
     }
 }
 
-// The first of a fault and those of predicates that an import at a line names and the unit does not have.
+// The first of a fault and that of a predicate that an import at a line names and the unit does not have.
+fn least_of_missing(
+    names: &Names,
+    found: Option<Fault>,
+    at: u64,
+    sources: &[Source],
+    unit: u64,
+    line: u64,
+    named: Export,
+) -> Option<Fault>
+    ensures { result ≡ least_from found (source_named_faults names.now sources.now at unit line named) }
+{
+    let missing = Fault {
+        unit: at,
+        line,
+        kind: RefusalKind::NotExported,
+    };
+    sooner_where(
+        found,
+        !is_offered(names, sources, unit, exported(named)),
+        missing,
+    )
+}
+
+// The first of a fault and those of predicates that an import names.
 fn least_of_named(
     names: &Names,
     found: Option<Fault>,
@@ -102,14 +133,8 @@ fn least_of_named(
     ensures { result ≡ least_from found (flat_map (source_named_faults names.now sources.now at unit line) only.now) }
 {
     let mut least = found;
-    for export in only {
-        let missing = Fault {
-            unit: at,
-            line,
-            kind: RefusalKind::NotExported,
-        };
-        let offered = is_offered(names, sources, unit, exported(*export));
-        least = sooner_where(least, !offered, missing);
+    for named in only {
+        least = least_of_missing(names, least, at, sources, unit, line, *named);
     }
     least
 }

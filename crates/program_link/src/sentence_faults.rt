@@ -103,7 +103,15 @@ fn problem_kind(problem: Option<Problem>) -> Option<RefusalKind>
     }
 }
 
-/// The first of a fault and those of clauses, by what is seen.
+// The first of a fault and that of a clause, by what is seen.
+fn least_of_clause(found: Option<Fault>, at: u64, scope: &Scope, clause: &Sentence) -> Option<Fault>
+    ensures { result ≡ least_from found (clause_faults scope.now at clause.now) }
+{
+    let kind = problem_kind(clause_problem(scope, &clause.term));
+    sooner_of_kind(found, at, clause.line, kind)
+}
+
+/// The first of a fault and those of clauses.
 pub(crate) fn least_of_clauses(
     found: Option<Fault>,
     at: u64,
@@ -114,8 +122,7 @@ pub(crate) fn least_of_clauses(
 {
     let mut least = found;
     for clause in clauses {
-        let kind = problem_kind(clause_problem(scope, &clause.term));
-        least = sooner_of_kind(least, at, clause.line, kind);
+        least = least_of_clause(least, at, scope, clause);
     }
     least
 }

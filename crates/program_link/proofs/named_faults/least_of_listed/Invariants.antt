@@ -2,7 +2,7 @@ use Rattle.std.proofs.Common.{◌≡◌, drop}
 use Rattle.std.specs.Prelude.{flat_map}
 use Rattle.program_link.specs.FaultOrder.{least_from}
 use Rattle.program_link.specs.HeldFaults.{held_export_faults}
-use Rattle.program_link.proofs.named_faults.least_of_undefined.Given as goal
+use Rattle.program_link.proofs.named_faults.least_of_listed.Given as goal
 
 abbrev pub invariant-loop-export : goal.invariant-loop-export
 invariant-loop-export l =
