@@ -10,6 +10,17 @@ pub least_behind : (found : Option Fault) (fs gs : List Fault) → least_from fo
 least_behind found [] gs = refl
 least_behind found (f ∷ fs) gs = least_behind (sooner found (Some f)) fs gs
 
+-- two lists, one behind the other
+pub then_more : (found a b : Option Fault) (fs gs : List Fault) → a ≡ least_from found fs → b ≡ least_from a gs → b ≡ least_from found (fs ++ gs)
+then_more found a b fs gs first second = second ∙ ap (λ o. least_from o gs) first ∙ sym (least_behind found fs gs)
+
+-- five lists, one behind the other
+pub five_in_turn : (found a b c d e : Option Fault) (ps qs rs ss ts : List Fault) → a ≡ least_from found ps → b ≡ least_from a qs → c ≡ least_from b rs → d ≡ least_from c ss → e ≡ least_from d ts
+    → e ≡ least_from found (ps ++ (qs ++ (rs ++ (ss ++ ts))))
+five_in_turn found a b c d e ps qs rs ss ts first second third fourth fifth =
+    then_more found a e ps (qs ++ (rs ++ (ss ++ ts))) first
+    (then_more a b e qs (rs ++ (ss ++ ts)) second (then_more b c e rs (ss ++ ts) third (then_more c d e ss ts fourth fifth)))
+
 -- a turn of a loop over what has faults
 pub least_next : {X : Type 0} (faults : X → List Fault) (old new : Option Fault) (xs : List X) (i : ℕ) (x : X) → i < length xs → x ≡ get_or xs i x → new ≡ least_from old (faults x)
     → least_from new (flat_map faults (drop (i + 1) xs)) ≡ least_from old (flat_map faults (drop i xs))

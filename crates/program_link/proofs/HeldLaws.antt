@@ -1,8 +1,9 @@
 -- What is found of units by what is held of them is what their files define.
-use Rattle.std.proofs.Common.{◌≡◌, ℕ, zero, suc, ◌+◌, Bool, not, List, [], ◌∷◌, ◌++◌, map, refl, ap, sym, ◌∙◌, subst, arith}
+use Rattle.std.proofs.Common.{◌≡◌, ℕ, zero, suc, ◌+◌, ◌<◌, Bool, not, List, [], ◌∷◌, ◌++◌, length, get_or, drop, map, refl, ap, sym, ◌∙◌, subst, arith}
 use Rattle.std.specs.Prelude.{⊤, ◌||◌, ◌&&◌, flat_map, slice_get, Option, Some, None}
 use Rattle.std.specs.Option.{option_map_or}
 use Rattle.term_core.specs.Names.{name_text}
+use Rattle.term_core.proofs.Turns.{turn}
 use Rattle.term_core.proofs.OperandLaws.{none_part, some_part}
 use Rattle.prog_data.specs.declared.refusals.RefusalKind.TheVariants as kind
 use Rattle.ciao_modules.specs.FileNames.{Word}
@@ -33,7 +34,7 @@ use Rattle.program_link.specs.Faults.{trouble_kind, clause_faults, assertion_fau
 use Rattle.program_link.specs.Offers.{source_offers, source_named_faults, source_import_faults}
 use Rattle.program_link.specs.HeldFaults.{held_export_faults, held_assertion_faults, held_faults, held_at, held_from}
 use Rattle.program_link.specs.declared.faults.Fault.{Fault}
-use Rattle.program_link.proofs.FaultLaws.{least_behind}
+use Rattle.program_link.proofs.FaultLaws.{least_behind, then_more}
 
 -- what is held of a file, wherever it stands
 record IsHeld (f : File) (s : Source) : Type 0 where
@@ -166,10 +167,13 @@ told_of_types modules (types.Ambiguous position place) other e = ap (λ t. least
 told_of_types modules types.TooManyNames other e = ap (λ t. least (type_faults t)) e.0
 told_of_types modules types.NoMemory other e = absurd (other refl)
 
--- one list behind another, five times
-pub in_turn : (found : Option Fault) (xs bs cs ds es : List Fault) → least_from (least_from (least_from (least_from (least_from found xs) bs) cs) ds) es ≡ least_from found (xs ++ (bs ++ (cs ++ (ds ++ es))))
-in_turn found xs bs cs ds es =
-    sym (least_behind found xs (bs ++ (cs ++ (ds ++ es)))
-    ∙ least_behind (least_from found xs) bs (cs ++ (ds ++ es))
-    ∙ least_behind (least_from (least_from found xs) bs) cs (ds ++ es)
-    ∙ least_behind (least_from (least_from (least_from found xs) bs) cs) ds es)
+-- a turn of the loop over units
+pub held_next : (names : List Word) (sources : List Source) (ss : List Setting) (old new : Option Fault) (us : List Unit) (at : ℕ) (u : Unit) → at < length us → u ≡ get_or us at u
+    → new ≡ least_from old (held_at names sources at u (slice_get sources at) (slice_get ss at))
+    → least_from new (held_from names sources ss (at + 1) (drop (at + 1) us)) ≡ least_from old (held_from names sources ss at (drop at us))
+held_next names sources ss old new us at u lt e is =
+    let left = drop (at + 1) us in
+    let same : at + 1 ≡ suc at = omega arith in
+    ap (λ n. least_from new (held_from names sources ss n left)) same
+    ∙ then_more old new (least_from new (held_from names sources ss (suc at) left)) (held_at names sources at u (slice_get sources at) (slice_get ss at)) (held_from names sources ss (suc at) left) is refl
+    ∙ sym (turn (λ xs. least_from old (held_from names sources ss at xs)) us at u lt e)
