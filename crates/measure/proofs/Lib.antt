@@ -1,0 +1,2 @@
+mod GoalBodies
+mod InRange
