@@ -3,5 +3,8 @@ pub mod Sayings
 pub mod Numbering
 pub mod Imports
 pub mod Settings
-pub mod Sources
 pub mod Groups
+pub mod Sources
+pub mod Copies
+pub mod Held
+pub mod Laws
