@@ -1,4 +1,4 @@
-// Clauses behind expansions, copied and let go. On its right side such a clause is as deep as it has calls: so both go by loops.
+// Copies of clauses behind expansions. On its right side such a clause is as deep as it has calls: so it is copied by a loop there.
 ghost use Rattle.std.specs.Prelude.{◌≡◌, ◌<◌, ◌∷◌, ◌++◌, [], IfOk, IfSome, OnOk};
 ghost use Rattle.term_core.specs.declared.fixed.TheConstants.{NIL};
 ghost use Rattle.term_core.specs.declared.terms.Term.{size-Term};
@@ -112,13 +112,4 @@ pub(crate) fn add_copy(
     let made = copied_sentence(alloc, sentence)?;
     sentences.set(place, made);
     Ok(())
-}
-
-/// Lets sentences go, however deep they are.
-pub(crate) fn discard_sentences(sentences: Items<Sentence>) {
-    let mut left = sentences;
-    while let Some(sentence) = left.pop() {
-        let Sentence { term, .. } = sentence;
-        discard(term);
-    }
 }

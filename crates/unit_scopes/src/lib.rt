@@ -1,16 +1,23 @@
 //! What units say, and what is seen in each of them.
 #![tactic(auto)]
 
+mod copies;
+mod discarding;
 mod groups;
 mod indexes;
 mod indicators;
+mod laws;
 mod sayings;
 mod scopes;
 mod settings;
 mod sources;
+mod types;
 mod visible;
 
+pub use discarding::{discard_modules, discard_sources};
 pub use indexes::{Index, Wanted, exported};
 pub use sayings::{Broken, Declared, Parts};
-pub use settings::Setting;
+pub use laws::{types_in_range_law, types_seen_law};
+pub use settings::{Setting, settings_of};
 pub use sources::{Source, sources_of};
+pub use types::type_modules;

@@ -5,7 +5,8 @@ ghost use Rattle.unit_scopes.specs.Imports.{type_modules};
 ghost use Rattle.unit_scopes.specs.Sources.{AreSources};
 ghost use Rattle.unit_scopes.specs.Held.{clause_at, clauses_at, group_at, places_held, clauses_held, type_held, module_held};
 
-use crate::copies::{add_copy, discard_sentences};
+use crate::copies::add_copy;
+use crate::discarding::{discard_modules, discard_sentences, discard_types};
 use crate::indicators::find;
 use crate::sayings::Declared;
 use crate::sources::Source;
@@ -61,7 +62,7 @@ pub(crate) fn clauses_at(
     match add_clauses(alloc, &mut made, clauses, places) {
         Ok(()) => Ok(made),
         Err(refused) => {
-            discard_sentences(made);
+            discard_sentences(&mut made);
             Err(refused)
         }
     }
@@ -150,15 +151,6 @@ fn add_types(alloc: Global, types: &mut Items<RegType>, source: &Source) -> Resu
     Ok(())
 }
 
-// Lets types go, however deep their clauses are.
-fn discard_types(types: Items<RegType>) {
-    let mut left = types;
-    while let Some(one) = left.pop() {
-        let RegType { clauses, .. } = one;
-        discard_sentences(clauses);
-    }
-}
-
 // The types that a unit declares.
 fn types_of(alloc: Global, source: &Source) -> Result<Items<RegType>, NoMemory>
     ensures { IfOk result (λ types. types ≡ map (type_held source.now) source.now.parts.types) }
@@ -167,7 +159,7 @@ fn types_of(alloc: Global, source: &Source) -> Result<Items<RegType>, NoMemory>
     match add_types(alloc, &mut types, source) {
         Ok(()) => Ok(types),
         Err(refused) => {
-            discard_types(types);
+            discard_types(&mut types);
             Err(refused)
         }
     }
@@ -223,15 +215,6 @@ fn add_modules(
         add_module(alloc, modules, source, sources)?;
     }
     Ok(())
-}
-
-/// Lets the types of units go, however deep their clauses are.
-pub fn discard_modules(modules: Items<TypeModule>) {
-    let mut left = modules;
-    while let Some(one) = left.pop() {
-        let TypeModule { types, .. } = one;
-        discard_types(types);
-    }
 }
 
 // The types of each unit, by what is held of it.
