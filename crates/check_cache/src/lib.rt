@@ -4,6 +4,8 @@
 mod cache;
 mod entries;
 mod laws;
+#[cfg(test)]
+mod tests;
 
 pub use cache::Cache;
 pub use entries::{Asked, Moment};
