@@ -1,2 +1,3 @@
+mod AtomsBound
 mod Moments
 mod Truths

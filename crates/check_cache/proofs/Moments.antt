@@ -1,5 +1,5 @@
 -- When a moment is valid.
-use Rattle.std.proofs.Common.{◌≡◌, ℕ, suc, ◌+◌, ◌-◌, ◌^◌, ◌<◌, ◌≤◌, ◌⊎◌, inl, inr, Bool, true, false, not, ◌&&◌, List, [], ◌∷◌, ◌++◌, reverse, length, map, get_or, refl, sym, ap, ◌∙◌, subst, arith}
+use Rattle.std.proofs.Common.{◌≡◌, ℕ, suc, ◌-◌, ◌^◌, ◌<◌, ◌≤◌, ◌⊎◌, inl, inr, Bool, true, false, not, ◌&&◌, List, [], ◌∷◌, ◌++◌, reverse, length, map, get_or, refl, sym, ap, ◌∙◌, subst, arith}
 use Rattle.std.specs.Prelude.{nat_lt, nat_le, ◌==◌}
 use Rattle.std.specs.List.{AllByRecursion}
 use Rattle.std.proofs.lemmas.Bool.{cases_lt, and_parts, and_from, and_left, and_right, lt-ltb, le-ltb, le-leb, lt-leb, eq-eqb, ne_eqb, ltb-true, leb-true, eqb-true, not-true}
@@ -9,7 +9,7 @@ use Rattle.term_heap.specs.PastStays.{GoesOn}
 use Rattle.term_heap.proofs.HistoryLaws.{undone_here, undone_more}
 use Rattle.term_heap.proofs.PastLaws.{lengths_stay}
 use Rattle.check_cache.specs.declared.entries.Moment.{Moment}
-use Rattle.check_cache.specs.Remembered.{newest_serial, moment_of, is_valid}
+use Rattle.check_cache.specs.Remembered.{newest_serial, is_valid}
 
 -- the serial of a change by its number is that of the newest once the later ones are undone
 pub newest_at : (n : ℕ) (cs : List Change) → 0 < n → n ≤ length cs → get_or (serials cs) (n - 1) 0 ≡ newest_serial (undone n cs)

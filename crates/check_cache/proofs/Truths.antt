@@ -1,6 +1,6 @@
 -- Entries that are true of a heap.
-use Rattle.std.proofs.Common.{◌≡◌, ℕ, zero, suc, ◌-◌, ◌^◌, ◌<◌, ◌≤◌, Bool, true, false, cond, not, ◌&&◌, List, [], ◌∷◌, ◌++◌, length, take, Option, Some, None, refl, sym, ap, ◌∙◌, subst, arith}
-use Rattle.std.specs.Prelude.{nat_eq, ◌==◌}
+use Rattle.std.proofs.Common.{◌≡◌, ℕ, zero, suc, ◌-◌, ◌^◌, ◌<◌, ◌≤◌, Bool, true, false, cond, not, ◌&&◌, List, [], ◌∷◌, ◌++◌, length, take, Option, Some, None, refl, sym, subst, arith}
+use Rattle.std.specs.Prelude.{◌==◌}
 use Rattle.std.specs.List.{AllByRecursion}
 use Rattle.std.specs.Option.{option_map_or}
 use Rattle.std.specs.Map.{lookup, lookup_entry, remove_entry}
@@ -10,7 +10,7 @@ use Rattle.term_core.specs.declared.terms.Term.{Term}
 use Rattle.term_core.specs.Terms.{instance, only}
 use Rattle.prog_data.specs.declared.grammars.Grammar.{Grammar}
 use Rattle.prog_data.specs.Membership.{belongs}
-use Rattle.term_heap.specs.Changes.{Change, Grows, Binds, History, size_of, value_of, undone, serial_of, AreUpTo}
+use Rattle.term_heap.specs.Changes.{Change, Grows, Binds, History, size_of, value_of, undone, AreUpTo}
 use Rattle.term_heap.specs.PastStays.{GoesOn}
 use Rattle.term_heap.proofs.HistoryLaws.{undone_here}
 use Rattle.term_heap.proofs.PastLaws.{sizes_stay}
@@ -19,7 +19,7 @@ use Rattle.check_cache.specs.declared.entries.Asked.{Asked}
 use Rattle.check_cache.specs.declared.entries.Moment.{Moment}
 use Rattle.check_cache.specs.Remembered.{Remembered, newest_serial, moment_of, is_valid, same_asked, is_remembered, passes, looked_up, kept, after_yes}
 use Rattle.check_cache.specs.Truth.{IsTrue, AreTrue, undone_to}
-use Rattle.check_cache.proofs.Moments.{Was, was_before, was_there, split_undone}
+use Rattle.check_cache.proofs.Moments.{was_before, was_there, split_undone}
 
 -- what the heap's calls keep
 

@@ -2,6 +2,7 @@
 ghost use Rattle.std.specs.Prelude.{◌<◌, List};
 ghost use Rattle.prog_data.specs.GrammarRange.{IsGrammar};
 ghost use Rattle.prog_data.specs.declared.grammars.Grammar.{Grammar as GrammarValue};
+ghost use Rattle.term_heap.specs.Changes.{MayBind};
 ghost use Rattle.check_cache.specs.declared.entries.Asked.{Asked as AskedValue};
 ghost use Rattle.check_cache.specs.declared.entries.Moment.{Moment as MomentValue};
 ghost use Rattle.check_cache.specs.Truth.{AreTrue};
@@ -74,18 +75,29 @@ fn load_pair(alloc: Global, heap: &mut Heap, left: u64, right: u64) -> Result<()
     }
 }
 
-// Binds a free cell to the place of an atom.
 fn bind(heap: &mut Heap, at: u64, to: u64) -> Result<(), NoMemory>
+    requires { MayBind heap.old.changes at to }
     ensures { (g : GrammarValue) (es : List (AskedValue × MomentValue)) → AreTrue g heap.old es → AreTrue g heap.new es }
 {
     truth_law();
     past_law();
+    let _size = heap.len();
+    match heap.bind(at, to) {
+        Ok(()) => Ok(()),
+        Err(NoMemory) => Err(NoMemory),
+    }
+}
+
+// Binds a free cell to the place of an atom.
+fn bind_to_atom(heap: &mut Heap, at: u64, to: u64) -> Result<(), NoMemory>
+    ensures { (g : GrammarValue) (es : List (AskedValue × MomentValue)) → AreTrue g heap.old es → AreTrue g heap.new es }
+{
     if at >= heap.len() || to >= heap.len() {
         return Ok(());
     }
     match heap.cell(at) {
         Cell::Free => match heap.cell(to) {
-            Cell::Atom(_) => heap.bind(at, to),
+            Cell::Atom(_) => bind(heap, at, to),
             Cell::Free | Cell::Ref(_) | Cell::Int(_) | Cell::Node(_, _, _) => Ok(()),
         },
         Cell::Ref(_) | Cell::Int(_) | Cell::Atom(_) | Cell::Node(_, _, _) => Ok(()),
@@ -136,7 +148,7 @@ fn take(
         Turn::Fresh(count) => grow(heap, count)?,
         Turn::Nil => load_nil(alloc, heap)?,
         Turn::Pair(left, right) => load_pair(alloc, heap, left, right)?,
-        Turn::Bind(at, to) => bind(heap, at, to)?,
+        Turn::Bind(at, to) => bind_to_atom(heap, at, to)?,
         Turn::Undo(length) => undo(heap, length),
         Turn::Check(name, cell, answer, looks) => {
             return Ok(is_answered(heap, cache, grammar, (name, cell), (answer, looks)));
