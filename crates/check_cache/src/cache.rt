@@ -8,9 +8,9 @@ ghost use Rattle.check_cache.specs.Truth.{AreTrue};
 
 use crate::entries::{Asked, Moment, is_valid, moment_of};
 use crate::laws::check_law;
+use crate::rows::belongs_by_parts;
 use lru::LruCache;
 use prog_data::Grammar;
-use prop_check::belongs_at;
 use std::alloc::Global;
 use std::marker::Model;
 use std::num::NonZeroUsize;
@@ -54,8 +54,8 @@ impl Cache {
         self.looks
     }
 
-    // Whether there is a valid entry for what is asked.
-    fn remembers(&self, heap: &Heap, asked: Asked) -> bool
+    /// Whether there is a valid entry for what is asked.
+    pub(crate) fn remembers(&self, heap: &Heap, asked: Asked) -> bool
         ensures { result ≡ is_remembered heap.now.changes asked self.now.entries }
     {
         match self.kept.peek(&asked) {
@@ -103,7 +103,7 @@ impl Cache {
             self.look_up(asked);
             return true;
         }
-        if !belongs_at(grammar, heap, name, cell) {
+        if !belongs_by_parts(self, heap, grammar, name, cell) {
             return false;
         }
         self.keep(heap, asked);

@@ -5,7 +5,7 @@ ghost use Rattle.term_core.specs.Terms.{instance};
 ghost use Rattle.prog_data.specs.declared.grammars.Grammar.{Grammar as GrammarValue};
 ghost use Rattle.prog_data.specs.Membership.{belongs};
 ghost use Rattle.check_cache.specs.Truth.{TruthStays};
-ghost use Rattle.check_cache.specs.Checked.{ChecksAreRight};
+ghost use Rattle.check_cache.specs.Checked.{ChecksAreRight, RulesAreRight};
 
 use prog_data::{membership_law, persistence_law};
 
@@ -27,4 +27,11 @@ pub(crate) fn check_law()
     ensures { ChecksAreRight }
 {
     instances_law();
+}
+
+/// A compound belongs to a name that has a rule to whose names its parts belong.
+pub(crate) fn rule_law()
+    ensures { RulesAreRight }
+{
+    membership_law();
 }

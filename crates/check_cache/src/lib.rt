@@ -4,6 +4,7 @@
 mod cache;
 mod entries;
 mod laws;
+mod rows;
 #[cfg(test)]
 mod tests;
 
