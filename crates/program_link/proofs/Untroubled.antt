@@ -5,7 +5,6 @@ use Rattle.std.specs.List.{AllByRecursion}
 use Rattle.term_core.proofs.OperandLaws.{none_part, some_part}
 use Rattle.prog_data.specs.declared.refusals.RefusalKind.{RefusalKind}
 use Rattle.prog_data.specs.declared.refusals.RefusalKind.TheVariants.{Undefined}
-use Rattle.prog_data.specs.declared.programs.Place.{Place}
 use Rattle.ciao_modules.specs.FileNames.{Word}
 use Rattle.ciao_modules.specs.UnitRanges.{exports_of}
 use Rattle.ciao_modules.specs.declared.units.Export.{Export}
@@ -14,10 +13,11 @@ use Rattle.assertion_read.specs.declared.assertions.Assertion.{Assertion}
 use Rattle.assertion_normal.specs.Troubles.{trouble_of}
 use Rattle.assertion_normal.specs.declared.troubles.Trouble.{Trouble}
 use Rattle.assertion_normal.specs.declared.troubles.Trouble.TheVariants as trouble
-use Rattle.regtype_grammar.specs.TypeFaults.{first_fault, module_fault, told_at, refused}
-use Rattle.regtype_grammar.specs.declared.faults.Fault.{Fault as TypeFaultAt}
-use Rattle.regtype_grammar.specs.declared.faults.Kind.{Kind}
-use Rattle.regtype_grammar.specs.declared.faults.Kind.TheVariants.{Shape, Name, Choice}
+use Rattle.regtype_grammar.specs.TypeFaults.{first_fault, module_fault, refused}
+use Rattle.regtype_grammar.specs.Grammars.{IsTypeFault}
+use Rattle.regtype_grammar.specs.declared.modules.TypeFault.{TypeFault}
+use Rattle.regtype_grammar.specs.declared.modules.TypeFault.TheVariants as types
+use Rattle.regtype_grammar.specs.declared.modules.TypeModule.{TypeModule}
 use Rattle.body_code.specs.Clauses.{problem_of}
 use Rattle.body_code.specs.declared.faults.Problem.{Problem}
 use Rattle.body_code.specs.declared.faults.Problem.TheVariants as problem
@@ -151,18 +151,28 @@ no_fault_at names files none at f is =
 
 -- types
 
--- what is told of a module is a fault
-is_told : (position : ℕ) (place : Place) (kind : Kind) → type_faults (Some (told_at position place kind)) ≡ [] → ⊥
-is_told position place Shape e = not_empty _ [] e
-is_told position place Name e = not_empty _ [] e
-is_told position place Choice e = not_empty _ [] e
+-- no fault of types is told
+pub no_types_told : (names : List Word) (files : List File) → least (all_faults names files) ≡ None → type_faults (refused (type_modules files)) ≡ []
+no_types_told names files none = rest_empty (faults_from names files 0 files) (type_faults (refused (type_modules files))) (none_least (all_faults names files) none)
 
-none_first : (position : ℕ) (fs : List (Option TypeFaultAt)) → type_faults (first_fault position fs) ≡ [] → first_fault position fs ≡ None
+-- of one more module
+one_module : {F : Type 0} (first : Option F → Option TypeFault) (o : Option F) → ((f : F) → type_faults (first (Some f)) ≡ [] → ⊥) → (type_faults (first None) ≡ [] → first None ≡ None)
+    → type_faults (first o) ≡ [] → first o ≡ None
+one_module first None told rest e = rest e
+one_module first (Some f) told rest e = absurd (told f e)
+
+none_first : (position : ℕ) (modules : List TypeModule) → type_faults (first_fault position (map module_fault modules)) ≡ [] → first_fault position (map module_fault modules) ≡ None
 none_first position [] e = refl
-none_first position (Some f ∷ fs) e = absurd (is_told position f.place f.kind e)
-none_first position (None ∷ fs) e = none_first (suc position) fs e
+none_first position (m ∷ ms) e = one_module (λ o. first_fault position (o ∷ map module_fault ms)) (module_fault m) (λ f empty. search) (none_first (suc position) ms) e
 
 -- where no fault is found, the types have none
 pub no_type_fault : (names : List Word) (files : List File) → least (all_faults names files) ≡ None → refused (type_modules files) ≡ None
-no_type_fault names files none =
-    none_first 0 (map module_fault (type_modules files)) (rest_empty (faults_from names files 0 files) (type_faults (refused (type_modules files))) (none_least (all_faults names files) none))
+no_type_fault names files none = none_first 0 (type_modules files) (no_types_told names files none)
+
+-- where no fault is found and types have no grammar, names are wanting
+pub names_wanting : (names : List Word) (files : List File) (fault : TypeFault) → least (all_faults names files) ≡ None → (fault ≡ types.NoMemory → ⊥) → IsTypeFault (type_modules files) fault → fault ≡ types.TooManyNames
+names_wanting names files (types.BadRegtype position place) none other e = absurd (not_empty _ [] (ap type_faults (sym e) ∙ no_types_told names files none))
+names_wanting names files (types.UnknownProperty position place) none other e = absurd (not_empty _ [] (ap type_faults (sym e) ∙ no_types_told names files none))
+names_wanting names files (types.Ambiguous position place) none other e = absurd (not_empty _ [] (ap type_faults (sym e) ∙ no_types_told names files none))
+names_wanting names files types.TooManyNames none other e = refl
+names_wanting names files types.NoMemory none other e = absurd (other refl)

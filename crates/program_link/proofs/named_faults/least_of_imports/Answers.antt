@@ -5,5 +5,5 @@ use Rattle.program_link.proofs.named_faults.least_of_imports.Goals as goal
 
 pub loop-import-preserved : goal.loop-import-preserved
 loop-import-preserved c =
-    least_next (source_import_faults c.args.names.now c.args.sources.now c.args.at) c.loop-import.least c.least_of_import.result c.args.imports.now c.loop-import.import-index c.import-item.result
-    c.loop-import-test.true c.import-item.is c.least_of_import.ensures ∙ c.loop-import.invariant
+    least_next (source_import_faults c.args.names.now c.args.sources.now c.args.at) c.loop-import.least c.least_of_import-least.result c.args.imports.now c.loop-import.import-index c.import-item.result
+    c.loop-import-test.true c.import-item.is c.least_of_import-least.ensures ∙ c.loop-import.invariant
