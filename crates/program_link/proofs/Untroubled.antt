@@ -13,7 +13,7 @@ use Rattle.assertion_read.specs.declared.assertions.Assertion.{Assertion}
 use Rattle.assertion_normal.specs.Troubles.{trouble_of}
 use Rattle.assertion_normal.specs.declared.troubles.Trouble.{Trouble}
 use Rattle.assertion_normal.specs.declared.troubles.Trouble.TheVariants as trouble
-use Rattle.regtype_grammar.specs.TypeFaults.{first_fault, module_fault, refused}
+use Rattle.regtype_grammar.specs.TypeFaults.{refused}
 use Rattle.regtype_grammar.specs.Grammars.{IsTypeFault}
 use Rattle.regtype_grammar.specs.declared.modules.TypeFault.{TypeFault}
 use Rattle.regtype_grammar.specs.declared.modules.TypeFault.TheVariants as types
@@ -151,23 +151,9 @@ no_fault_at names files none at f is =
 
 -- types
 
--- no fault of types is told
+-- where no fault is found, none is told of types
 pub no_types_told : (names : List Word) (files : List File) → least (all_faults names files) ≡ None → type_faults (refused (type_modules files)) ≡ []
 no_types_told names files none = rest_empty (faults_from names files 0 files) (type_faults (refused (type_modules files))) (none_least (all_faults names files) none)
-
--- of one more module
-one_module : {F : Type 0} (first : Option F → Option TypeFault) (o : Option F) → ((f : F) → type_faults (first (Some f)) ≡ [] → ⊥) → (type_faults (first None) ≡ [] → first None ≡ None)
-    → type_faults (first o) ≡ [] → first o ≡ None
-one_module first None told rest e = rest e
-one_module first (Some f) told rest e = absurd (told f e)
-
-none_first : (position : ℕ) (modules : List TypeModule) → type_faults (first_fault position (map module_fault modules)) ≡ [] → first_fault position (map module_fault modules) ≡ None
-none_first position [] e = refl
-none_first position (m ∷ ms) e = one_module (λ o. first_fault position (o ∷ map module_fault ms)) (module_fault m) (λ f empty. search) (none_first (suc position) ms) e
-
--- where no fault is found, the types have none
-pub no_type_fault : (names : List Word) (files : List File) → least (all_faults names files) ≡ None → refused (type_modules files) ≡ None
-no_type_fault names files none = none_first 0 (type_modules files) (no_types_told names files none)
 
 -- where no fault is found and types have no grammar, names are wanting
 pub names_wanting : (names : List Word) (files : List File) (fault : TypeFault) → least (all_faults names files) ≡ None → (fault ≡ types.NoMemory → ⊥) → IsTypeFault (type_modules files) fault → fault ≡ types.TooManyNames
