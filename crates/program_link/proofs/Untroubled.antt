@@ -17,14 +17,12 @@ use Rattle.regtype_grammar.specs.TypeFaults.{refused}
 use Rattle.regtype_grammar.specs.Grammars.{IsTypeFault}
 use Rattle.regtype_grammar.specs.declared.modules.TypeFault.{TypeFault}
 use Rattle.regtype_grammar.specs.declared.modules.TypeFault.TheVariants as types
-use Rattle.regtype_grammar.specs.declared.modules.TypeModule.{TypeModule}
 use Rattle.body_code.specs.Clauses.{problem_of}
 use Rattle.body_code.specs.declared.faults.Problem.{Problem}
 use Rattle.body_code.specs.declared.faults.Problem.TheVariants as problem
 use Rattle.unit_scopes.specs.Sayings.{File}
 use Rattle.unit_scopes.specs.Numbering.{defines, asserted}
 use Rattle.unit_scopes.specs.Imports.{exported, kinds_seen, scope_of, type_modules}
-use Rattle.unit_scopes.specs.declared.sayings.Broken.{Broken}
 use Rattle.program_link.specs.FaultOrder.{least}
 use Rattle.program_link.specs.NamedFaults.{fault_where, fault_of, broken_fault, export_faults, import_faults}
 use Rattle.program_link.specs.Faults.{trouble_kind, problem_kind, assertion_faults, clause_faults, type_faults, file_faults, faults_from, all_faults}
