@@ -1,5 +1,5 @@
 // What is wrong with units.
-ghost use Rattle.std.specs.Prelude.{◌≡◌, ⊥, Some, None, map, slice_get, IfOk};
+ghost use Rattle.std.specs.Prelude.{◌≡◌, Some, None, map, slice_get, IfOk};
 ghost use Rattle.regtype_grammar.specs.TypeFaults.{refused};
 ghost use Rattle.regtype_grammar.specs.declared.modules.TypeFault.TheVariants as types;
 ghost use Rattle.unit_scopes.specs.Sayings.{file_of};
