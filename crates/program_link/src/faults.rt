@@ -1,7 +1,6 @@
 // What is wrong with units.
-ghost use Rattle.std.specs.Prelude.{◌≡◌, Some, None, map, slice_get, IfOk};
+ghost use Rattle.std.specs.Prelude.{◌≡◌, Some, None, map, slice_get};
 ghost use Rattle.regtype_grammar.specs.TypeFaults.{refused};
-ghost use Rattle.regtype_grammar.specs.declared.modules.TypeFault.TheVariants as types;
 ghost use Rattle.unit_scopes.specs.Sayings.{file_of};
 ghost use Rattle.unit_scopes.specs.Sources.{AreSources};
 ghost use Rattle.unit_scopes.specs.Settings.{settings as settings_of};
@@ -16,7 +15,7 @@ use crate::sentence_faults::{least_of_assertions, least_of_broken, least_of_clau
 use ciao_modules::Unit;
 use prog_data::{Place, RefusalKind};
 use regtype_grammar::TypeFault;
-use term_core::{Names, NoMemory};
+use term_core::Names;
 use unit_scopes::{Setting, Source};
 
 /// A rule of the language that is broken in a line of a unit, which is given by its place in the load order.
@@ -105,24 +104,17 @@ fn fault_at(unit: u64, place: Place, kind: RefusalKind) -> Option<Fault>
     })
 }
 
-/// A fault of types, in the unit of its module; none where names are wanting.
-///
-/// # Errors
-/// Where memory was refused.
-pub(crate) fn type_fault(fault: &TypeFault) -> Result<Option<Fault>, NoMemory>
-    ensures told { IfOk result (λ told. told ≡ least (type_faults (Some fault.now))) }
-    ensures other { IfOk result (λ told. fault.now ≡ types.NoMemory → ⊥) }
+/// A fault of types, in the unit of its module; none where names or memory are wanting.
+pub(crate) fn type_fault(fault: &TypeFault) -> Option<Fault>
+    ensures { result ≡ least (type_faults (Some fault.now)) }
 {
     match fault {
-        TypeFault::BadRegtype(unit, place) => {
-            Ok(fault_at(*unit, *place, RefusalKind::BadRegtype))
-        }
+        TypeFault::BadRegtype(unit, place) => fault_at(*unit, *place, RefusalKind::BadRegtype),
         TypeFault::UnknownProperty(unit, place) => {
-            Ok(fault_at(*unit, *place, RefusalKind::UnknownProperty))
+            fault_at(*unit, *place, RefusalKind::UnknownProperty)
         }
-        TypeFault::Ambiguous(unit, place) => { Ok(fault_at(*unit, *place, RefusalKind::Ambiguous)) }
-        TypeFault::TooManyNames => Ok(None),
-        TypeFault::NoMemory => Err(NoMemory),
+        TypeFault::Ambiguous(unit, place) => fault_at(*unit, *place, RefusalKind::Ambiguous),
+        TypeFault::TooManyNames | TypeFault::NoMemory => None,
     }
 }
 
