@@ -158,14 +158,6 @@ least_is names us sources held_settings told found are set types_are is =
     ∙ types_told (least (faults_from names files 0 files)) refusal
     ∙ sym (least_behind None (faults_from names files 0 files) (type_faults refusal))
 
--- what is told of types that have no grammar is their first fault
-pub told_of_types : (modules : List TypeModule) (fault : TypeFault) → (fault ≡ types.NoMemory → ⊥) → IsTypeFault modules fault → least_from None (type_faults (refused modules)) ≡ least (type_faults (Some fault))
-told_of_types modules (types.BadRegtype position place) other e = ap (λ t. least (type_faults t)) e
-told_of_types modules (types.UnknownProperty position place) other e = ap (λ t. least (type_faults t)) e
-told_of_types modules (types.Ambiguous position place) other e = ap (λ t. least (type_faults t)) e
-told_of_types modules types.TooManyNames other e = ap (λ t. least (type_faults t)) e.0
-told_of_types modules types.NoMemory other e = absurd (other refl)
-
 -- a turn of the loop over units
 pub held_next : (names : List Word) (sources : List Source) (ss : List Setting) (old new : Option Fault) (us : List Unit) (at : ℕ) (u : Unit) → at < length us → u ≡ get_or us at u
     → new ≡ least_from old (held_at names sources at u (slice_get sources at) (slice_get ss at))
