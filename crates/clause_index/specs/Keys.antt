@@ -1,6 +1,6 @@
 -- The keys of terms, by which some are told from one another before they are unified.
 -- The headline does not rest on this file.
-use Rattle.std.specs.Prelude.{ℕ, ◌==◌, Bool, true, false, ◌&&◌, List, [], ◌∷◌, length}
+use Rattle.std.specs.Prelude.{ℕ, ℤ, ◌==◌, Bool, true, false, ◌&&◌, ◌||◌, List, [], ◌∷◌, length}
 use Rattle.std.specs.Ordering.{int_eq}
 use Rattle.term_core.specs.declared.terms.Term.{Term, out-Term}
 use Rattle.term_core.specs.declared.terms.Term.TheOpen as layer
@@ -31,15 +31,17 @@ is_free (Int n) = false
 is_free (Atom a) = false
 is_free (Node f n) = false
 
--- whether a key is that of this integer, of this atom, of compounds with this name and so many arguments
-abbrev pub is_int : _ → Key → Bool
+-- whether a key is that of this integer
+abbrev pub is_int : ℤ → Key → Bool
 is_int m (Int n) = int_eq m n
 is_int m other = false
 
+-- whether a key is that of this atom
 abbrev pub is_atom : ℕ → Key → Bool
 is_atom a (Atom b) = a == b
 is_atom a other = false
 
+-- whether a key is that of the compounds with this name and so many arguments
 abbrev pub is_node : (name arity : ℕ) → Key → Bool
 is_node f m (Node g n) = (f == g) && (m == n)
 is_node f m other = false
@@ -51,6 +53,6 @@ same (Int n) k = is_int n k
 same (Atom a) k = is_atom a k
 same (Node f n) k = is_node f n k
 
--- whether terms with these keys may be unified: one is a variable, or the keys are the same
+-- whether a term with the first key and a head's argument with the second may be unified: one is a variable, or the keys are the same
 abbrev pub agrees : Key → Key → Bool
-agrees key k = is_free key || (is_free k || same key k)
+agrees key k = is_free key || (is_free k || same k key)

@@ -1,7 +1,6 @@
 -- What an index selects of a program, and what becomes of the clauses that it leaves out.
 -- The headline does not rest on this file.
-use Rattle.std.specs.Prelude.{◌≡◌, ◌<◌, ℕ, Bool, true, false, List, [], ◌∷◌, map, filter, length, slice_get, Some}
-use Rattle.std.specs.List.{list_all}
+use Rattle.std.specs.Prelude.{◌≡◌, ◌<◌, ℕ, false, List, [], ◌∷◌, map, filter, length, slice_get, Some}
 use Rattle.term_core.specs.declared.terms.Term.{Term}
 use Rattle.term_core.specs.declared.equations.Outcome.TheVariants.{Clash}
 use Rattle.term_core.specs.Terms.{rename}
@@ -9,7 +8,7 @@ use Rattle.term_core.specs.Unify.{move, Clashes, pairs, Open, Ended, solve}
 use Rattle.prog_data.specs.declared.programs.Clause.{Clause}
 use Rattle.prog_data.specs.declared.programs.Program.{Program}
 use Rattle.prog_data.specs.Goals.{pred_of}
-use Rattle.prog_data.specs.Ranges.{is_clause_of}
+use Rattle.prog_data.specs.Programs.{IsProgram}
 use Rattle.clause_index.specs.declared.keys.Key.{Key}
 use Rattle.clause_index.specs.declared.keys.Key.TheVariants.{Free}
 use Rattle.clause_index.specs.Keys.{first_key}
@@ -19,10 +18,10 @@ use Rattle.clause_index.specs.Selected.{numbers, selected, program_keys, keys_at
 abbrev pub SelectsInOrder : Type 0
 SelectsInOrder = (program : Program) (p : ℕ) (key : Key) → selected (keys_at (program_keys program) p) key ≡ filter (can_match program p key) (numbers 0 (length (pred_of program p).clauses))
 
--- all clauses are selected where the key is free, and where the predicate has no arguments and its clauses are in range
+-- all clauses are selected where the key is free, and where a predicate of a program in range has no arguments
 pub record SelectsAll : Type 0 where
   pub free : (program : Program) (p : ℕ) → selected (keys_at (program_keys program) p) Free ≡ numbers 0 (length (pred_of program p).clauses)
-  pub no_arguments : (program : Program) (p : ℕ) (key : Key) → list_all (is_clause_of program 0) (pred_of program p).clauses ≡ true → selected (keys_at (program_keys program) p) key ≡ numbers 0 (length (pred_of program p).clauses)
+  pub no_arguments : (program : Program) → IsProgram program → (p : ℕ) (key : Key) → (pred_of program p).arity ≡ 0 → selected (keys_at (program_keys program) p) key ≡ numbers 0 (length (pred_of program p).clauses)
 
 -- the first equation of the arguments and of the clause at a place clashes, whatever the clause's variables are; so to try it fails at once, and binds nothing
 pub record ClashesFirst (program : Program) (p k : ℕ) (args : List Term) : Type 0 where

@@ -5,7 +5,12 @@ use Rattle.std.specs.Option.{option_map_or}
 use Rattle.indexmap.specs.IndexMap.{IndexMap, get}
 use Rattle.clause_index.specs.declared.keys.Key.{Key}
 use Rattle.clause_index.specs.declared.lists.Lists.{Lists}
-use Rattle.clause_index.specs.Keys.{is_free, same}
+use Rattle.clause_index.specs.contracts.keys.KeyPartialEq.TheImpl as key_eq
+use Rattle.clause_index.specs.Keys.{is_free}
+
+-- what `==` says of two keys
+abbrev pub same_key : Key → Key → Bool
+same_key = (key_eq.ghosts).eq
 
 -- a list with one place more
 abbrev pub placed : ℕ → List ℕ → List ℕ
@@ -23,7 +28,7 @@ placed_at (e ∷ es) (suc at) place = e ∷ placed_at es at place
 
 -- the list of a bound key: its own, or that of the free keys
 abbrev pub found_bound : {S : Type 0} → IndexMap Key (List ℕ) S → List ℕ → Key → List ℕ
-found_bound bound unbound key = option_map_or (λ places. places) (get same bound key) unbound
+found_bound bound unbound key = option_map_or (λ places. places) (get same_key bound key) unbound
 
 -- the list of a key
 abbrev pub found : Lists → Key → List ℕ

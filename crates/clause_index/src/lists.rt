@@ -1,8 +1,9 @@
 // The places of clauses, a list for each key.
-ghost use Rattle.std.specs.Prelude.{◌≡◌, ◌<◌, ◌+◌, ℕ, length, cond, OnOk, Some};
+ghost use Rattle.std.specs.Prelude.{◌≡◌, ◌<◌, length, cond, false, [], IfOk, OnOk, None, Some};
 ghost use Rattle.std.specs.Option.{option_map};
 ghost use Rattle.indexmap.specs.IndexMap.{get, index_map_len};
-ghost use Rattle.clause_index.specs.Keys.{agrees};
+ghost use Rattle.clause_index.specs.declared.keys.Key.TheVariants.{Free};
+ghost use Rattle.clause_index.specs.Keys.{is_free, agrees};
 ghost use Rattle.clause_index.specs.Lists.{same_key, with_place, placed, placed_at, found_bound, found};
 
 use crate::keys::{Key, is_free};
@@ -71,6 +72,26 @@ fn push_to_one(
     Ok(())
 }
 
+// Adds a place to the list of a key; to each list and to that of free keys, where the key is free.
+fn push_bound(
+    alloc: Global,
+    lists: &mut IndexMap<Key, Items<u64>>,
+    unbound: &mut Items<u64>,
+    key: Key,
+    place: u64,
+) -> Result<(), NoMemory>
+    ensures { OnOk result ((other : Key) → is_free other ≡ false → found_bound lists.new unbound.new other ≡ with_place (agrees other key) place (found_bound lists.old unbound.old other)) }
+{
+    if is_free(key) {
+        push_to_each(lists, place)?;
+        unbound.push(place)?;
+        Ok(())
+    } else {
+        push_to_one(alloc, lists, unbound.as_slice(), key, place)?;
+        Ok(())
+    }
+}
+
 impl Lists {
     /// The lists of no clauses.
     pub(crate) fn new(alloc: Global) -> Lists
@@ -88,12 +109,7 @@ impl Lists {
         ensures { OnOk result ((other : Key) → found self.new other ≡ with_place (agrees other key) (length (found self.old Free)) (found self.old other)) }
     {
         let place = self.all.len() as u64;
-        if is_free(key) {
-            push_to_each(&mut self.bound, place)?;
-            self.unbound.push(place)?;
-        } else {
-            push_to_one(alloc, &mut self.bound, self.unbound.as_slice(), key, place)?;
-        }
+        push_bound(alloc, &mut self.bound, &mut self.unbound, key, place)?;
         self.all.push(place)?;
         Ok(())
     }
