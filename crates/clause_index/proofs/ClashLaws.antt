@@ -72,15 +72,13 @@ module _ (program : Program) (p k : ℕ) where
     ends = λ base. ap (λ head. solve (Open (pairs (t ∷ ts) (map (rename base) head)) [])) is ∙ ap (λ mv. after mv (pairs ts (map (rename base) us)) []) (clashing base t u e);
   }
 
-left_out : (program : Program) (p k : ℕ) (args : List Term) → k < length (pred_of program p).clauses → can_match program p (first_key args) k ≡ false → ClashesFirst program p k args
-left_out program p k args lt e = by_place (slice_get_cases clauses k).1
-  where
-    abbrev clauses : List Clause
-    clauses = (pred_of program p).clauses
-
-    by_place : ((x : Clause) × (k < length clauses) × (slice_get clauses k ≡ Some x) × (get_or clauses k x ≡ x)) ⊎ ((length clauses ≤ k) × (slice_get clauses k ≡ None)) → ClashesFirst program p k args
-    by_place (inl l) = by_lists program p k l.0 l.2 args (l.0).head refl (sym (ap (λ o. option_map_or (λ c. agrees (first_key args) (head_key c)) o false) l.2) ∙ e)
-    by_place (inr r) = absurd (omega (arith, lt, r.0))
+  left_out : (args : List Term) → k < length (pred_of program p).clauses → can_match program p (first_key args) k ≡ false → ClashesFirst program p k args
+  left_out args lt e = by_place (slice_get_cases (pred_of program p).clauses k).1
+    where
+      by_place : ((x : Clause) × (k < length (pred_of program p).clauses) × (slice_get (pred_of program p).clauses k ≡ Some x) × (get_or (pred_of program p).clauses k x ≡ x)) ⊎ ((length (pred_of program p).clauses ≤ k) × (slice_get (pred_of program p).clauses k ≡ None)) →
+          ClashesFirst program p k args
+      by_place (inl l) = by_lists l.0 l.2 args (l.0).head refl (sym (ap (λ o. option_map_or (λ c. agrees (first_key args) (head_key c)) o false) l.2) ∙ e)
+      by_place (inr r) = absurd (omega (arith, lt, r.0))
 
 pub left_out_clash : LeftOutClash
 left_out_clash = left_out

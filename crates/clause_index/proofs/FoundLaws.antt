@@ -85,12 +85,12 @@ module _ {S : Type 0} (old new : IndexMap Key (List ℕ) S) (unbound : List ℕ)
 
 -- all keys
 
+either : (b : Bool) (places : List ℕ) → cond b places places ≡ places
+either true places = refl
+either false places = refl
+
 pub nothing_found : (lists : Lists) → lists.all ≡ [] → lists.unbound ≡ [] → lists.bound.entries ≡ [] → (key : Key) → found lists key ≡ []
-nothing_found lists all unbound bound key = (λ i. cond (is_free key) (all i) (option_map_or (λ places. places) (lookup (same_key key) (bound i)) (unbound i))) ∙ both (is_free key)
-  where
-    both : (b : Bool) → cond b [] [] ≡ []
-    both true = refl
-    both false = refl
+nothing_found lists all unbound bound key = (λ i. cond (is_free key) (all i) (option_map_or (λ places. places) (lookup (same_key key) (bound i)) (unbound i))) ∙ either (is_free key) []
 
 pub placed_key : (old new : Lists) (key : Key) → new.all ≡ placed (length old.all) old.all →
     ((other : Key) → is_free other ≡ false → found_bound new.bound new.unbound other ≡ with_place (agrees other key) (length old.all) (found_bound old.bound old.unbound other)) →

@@ -1,14 +1,14 @@
 -- The places of the elements of a list that pass a test.
 use Rattle.std.proofs.Common.{◌≡◌, ◌+◌, ◌<◌, ◌≤◌, ℕ, zero, suc, Bool, true, false, List, [], ◌∷◌, ◌++◌, map, length, get_or, drop, refl, ap, sym, ◌∙◌, append_assoc, arith}
-use Rattle.std.specs.Prelude.{cond, if◌then◌else◌, filter, slice_get, Some}
+use Rattle.std.specs.Prelude.{cond, if◌then◌else◌, filter, slice_get, None, Some}
 use Rattle.std.specs.List.{AllByRecursion}
-use Rattle.std.proofs.lemmas.List.{length_push}
-use Rattle.std.proofs.lemmas.Option.{get_or_from_slice_get}
+use Rattle.std.proofs.lemmas.List.{length_push, get_or_default, at_drop_all, append-nil}
+use Rattle.std.proofs.lemmas.Option.{get_or_from_slice_get, none-some}
 use Rattle.term_core.proofs.Turns.{turn}
 use Rattle.clause_index.specs.declared.keys.Key.{Key}
 use Rattle.clause_index.specs.declared.keys.Key.TheVariants.{Free}
 use Rattle.clause_index.specs.Keys.{agrees}
-use Rattle.clause_index.specs.Selected.{numbers, agrees_at, selected}
+use Rattle.clause_index.specs.Selected.{numbers, agrees_at, selected, keys_at}
 use Rattle.clause_index.specs.Lists.{with_place}
 
 -- the places of the elements that pass, where the first one has this place
@@ -61,3 +61,23 @@ next_key old new keys i k lt is added before key =
 -- before the first key
 pub no_key : (found : Key → List ℕ) (keys : List Key) → ((key : Key) → found key ≡ []) → (key : Key) → found key ++ places_from (agrees key) (length (found Free)) keys ≡ selected keys key
 no_key found keys none key = (λ j. none key j ++ places_from (agrees key) (length (none Free j)) keys) ∙ sym (selected_is keys key)
+
+-- the turn, with the key as the loop has it
+pub next_at : (old new : Key → List ℕ) (keys : List Key) (i : ℕ) (d : Key) → i < length keys → ((other : Key) → new other ≡ with_place (agrees other (get_or keys i d)) (length (old Free)) (old other)) →
+    ((key : Key) → old key ++ places_from (agrees key) (length (old Free)) (drop i keys) ≡ selected keys key) →
+    (key : Key) → new key ++ places_from (agrees key) (length (new Free)) (drop (i + 1) keys) ≡ selected keys key
+next_at old new keys i d lt added before = next_key old new keys i (get_or keys i d) lt (get_or_default keys i d (get_or keys i d) lt) added before
+
+-- after the last key
+pub last_key : (found : Key → List ℕ) (keys : List Key) (i : ℕ) → (i < length keys → ⊥) → ((key : Key) → found key ++ places_from (agrees key) (length (found Free)) (drop i keys) ≡ selected keys key) →
+    (key : Key) → found key ≡ selected keys key
+last_key found keys i out before key = sym (append-nil (found key)) ∙ sym (at_drop_all (λ ks. found key ++ places_from (agrees key) (length (found Free)) ks) keys i out) ∙ before key
+
+-- where a predicate is not there, nothing is selected
+no_keys : (keys : List (List Key)) (p : ℕ) → slice_get keys p ≡ None → get_or keys p [] ≡ []
+no_keys [] p e = refl
+no_keys (k ∷ ks) zero e = absurd (none-some k (sym e))
+no_keys (k ∷ ks) (suc p) e = no_keys ks p e
+
+pub none_selected : (keys : List (List Key)) (p : ℕ) (key : Key) → None ≡ slice_get keys p → [] ≡ selected (keys_at keys p) key
+none_selected keys p key e = ap (λ ks. selected ks key) (sym (no_keys keys p (sym e)))
