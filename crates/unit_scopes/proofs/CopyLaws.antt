@@ -19,11 +19,11 @@ set_behind xs x y =
     ap (λ n. slice_set (xs ++ x ∷ []) n y) same ∙ set_last xs x y
 
 -- a compound that is opened and closed again
-pub closed_opened : (open : Open) (name : ℕ) (front : List Term) (last whole : Term) → open ≡ record { name = name; parts = front ++ term.Atom NIL ∷ [] } → whole ≡ term.Node name (front ++ last ∷ []) → closed open last ≡ whole
-closed_opened open name front last whole e made =
+pub closed_opened : (outer : Open) (name : ℕ) (front : List Term) (last whole : Term) → outer ≡ record { name = name; parts = front ++ term.Atom NIL ∷ [] } → whole ≡ term.Node name (front ++ last ∷ []) → closed outer last ≡ whole
+closed_opened outer name front last whole e made =
     ap (λ o. closed o last) e ∙ ap (term.Node name) (set_behind front (term.Atom NIL) last) ∙ sym made
 
 -- one compound more in the last place
-pub closed_all_append : (opens : List Open) (open : Open) (t : Term) → closed_all (opens ++ open ∷ []) t ≡ closed_all opens (closed open t)
-closed_all_append [] open t = refl
-closed_all_append (o ∷ os) open t = ap (closed o) (closed_all_append os open t)
+pub closed_all_append : (compounds : List Open) (outer : Open) (t : Term) → closed_all (compounds ++ outer ∷ []) t ≡ closed_all compounds (closed outer t)
+closed_all_append [] outer t = refl
+closed_all_append (o ∷ os) outer t = ap (closed o) (closed_all_append os outer t)

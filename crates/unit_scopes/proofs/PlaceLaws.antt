@@ -21,7 +21,7 @@ use Rattle.unit_scopes.proofs.IndexLaws.{same_is, any_added, or_again, or_nothin
 
 -- what stands in a list from a place on
 
-pub StandsFrom : {A : Type 0} → List A → ℕ → List A → Type 0
+abbrev pub StandsFrom : {A : Type 0} → List A → ℕ → List A → Type 0
 StandsFrom all k [] = Unit {0}
 StandsFrom all k (x ∷ xs) = (slice_get all k ≡ Some x) × StandsFrom all (suc k) xs
 

@@ -1,6 +1,6 @@
 -- What units in range say is in range.
 use Rattle.std.proofs.Common.{◌≡◌, ◌≤◌, ℕ, suc, Bool, true, false, ◌&&◌, ◌==◌, List, [], ◌∷◌, ◌++◌, map, cond, refl, sym, subst, ◌∙◌}
-use Rattle.std.specs.Prelude.{filter, length, Option, Some, None, option_and_then}
+use Rattle.std.specs.Prelude.{⊤, filter, length, Option, Some, None, option_and_then}
 use Rattle.std.specs.List.{list_all, AllByRecursion}
 use Rattle.std.proofs.lemmas.Option.{none-some, same_Some}
 use Rattle.term_core.specs.Names.{fixed_names}
@@ -47,10 +47,10 @@ each_filter P test (x ∷ xs) h = by (test x) (each_filter P test xs h.1)
 -- what a sentence says is in range
 abbrev IsSayingInRange : ℕ → Saying → Type 0
 IsSayingInRange names (Clauses clauses) = AllByRecursion (IsSentenceInRange names) clauses
-IsSayingInRange names (Asserts a) = Unit {0}
-IsSayingInRange names (Declares d) = Unit {0}
-IsSayingInRange names Passes = Unit {0}
-IsSayingInRange names (Breaks b) = Unit {0}
+IsSayingInRange names (Asserts a) = ⊤
+IsSayingInRange names (Declares d) = ⊤
+IsSayingInRange names Passes = ⊤
+IsSayingInRange names (Breaks b) = ⊤
 
 module _ (rules : RulesStayInRange) (clauses : ClausesStayInRange) (names : ℕ) (fixed : length fixed_names ≤ names) where
   -- expansions

@@ -7,9 +7,9 @@ use Rattle.unit_scopes.specs.declared.copies.Open.{Open}
 
 -- a compound with its last argument in its place
 abbrev pub closed : Open → Term → Term
-closed open t = term.Node open.name (slice_set open.parts (length open.parts - 1) t)
+closed outer t = term.Node outer.name (slice_set outer.parts (length outer.parts - 1) t)
 
 -- the same of compounds each of which is the last argument of the one before it
 abbrev pub closed_all : List Open → Term → Term
 closed_all [] t = t
-closed_all (open ∷ more) t = closed open (closed_all more t)
+closed_all (outer ∷ more) t = closed outer (closed_all more t)

@@ -34,7 +34,7 @@ fn last_part(term: &Term) -> Option<(u64, &[Term], &Term)>
 
 // A compound whose last argument is still to come.
 fn opened(alloc: Global, name: u64, front: &[Term]) -> Result<Open, NoMemory>
-    ensures { IfOk result (λ open. open ≡ record { name = name; parts = front.now ++ Term.Atom NIL ∷ [] }) }
+    ensures { IfOk result (λ outer. outer ≡ record { name = name; parts = front.now ++ Term.Atom NIL ∷ [] }) }
 {
     let mut parts = copied_all(alloc, front)?;
     parts.push(Term::Atom(NIL))?;
@@ -42,10 +42,10 @@ fn opened(alloc: Global, name: u64, front: &[Term]) -> Result<Open, NoMemory>
 }
 
 // A compound with its last argument.
-fn closed(open: Open, last: Term) -> Term
-    ensures { result ≡ closed open last }
+fn closed(outer: Open, last: Term) -> Term
+    ensures { result ≡ closed outer last }
 {
-    let Open { name, mut parts } = open;
+    let Open { name, mut parts } = outer;
     if parts.is_empty() {
         discard(last);
     } else {
@@ -56,13 +56,13 @@ fn closed(open: Open, last: Term) -> Term
 }
 
 // Compounds in one another, around a term.
-fn closed_all(opened: Items<Open>, term: Term) -> Term
-    ensures { result ≡ closed_all opened term }
+fn closed_all(compounds: Items<Open>, term: Term) -> Term
+    ensures { result ≡ closed_all compounds term }
 {
-    let mut left = opened;
+    let mut left = compounds;
     let mut made = term;
-    while let Some(open) = left.pop() {
-        made = closed(open, made);
+    while let Some(outer) = left.pop() {
+        made = closed(outer, made);
     }
     made
 }
@@ -71,15 +71,15 @@ fn closed_all(opened: Items<Open>, term: Term) -> Term
 fn copied_term(alloc: Global, term: &Term) -> Result<Term, NoMemory>
     ensures { IfOk result (λ t. t ≡ term.now) }
 {
-    let mut opens = Items::new(alloc);
+    let mut compounds = Items::new(alloc);
     let mut here = term;
     while let Some((name, front, last)) = last_part(here) {
-        let open = opened(alloc, name, front)?;
-        opens.push(open)?;
+        let outer = opened(alloc, name, front)?;
+        compounds.push(outer)?;
         here = last;
     }
     let leaf = copy(alloc, here)?;
-    Ok(closed_all(opens, leaf))
+    Ok(closed_all(compounds, leaf))
 }
 
 // An equal sentence.
