@@ -17,22 +17,30 @@ use Rattle.assertion_normal.specs.Troubles.{least_trouble}
 use Rattle.assertion_normal.specs.declared.outcomes.Normal.{Normal}
 use Rattle.body_code.specs.Clauses.{problem_of}
 use Rattle.body_code.specs.declared.faults.Indicator.{Indicator}
-use Rattle.unit_scopes.specs.Indicators.{same_indicator, is_among}
+use Rattle.unit_scopes.specs.Sayings.{File}
+use Rattle.unit_scopes.specs.Indicators.{same_indicator}
 use Rattle.unit_scopes.specs.Numbering.{asserted}
 use Rattle.unit_scopes.specs.Sources.{index_exports}
 use Rattle.unit_scopes.specs.declared.settings.Setting.{Setting}
 use Rattle.unit_scopes.specs.declared.sources.Source.{Source}
-use Rattle.program_link.specs.Programs.{conditions, normals_behind, pred_made, beside, is_reported, entries_or_any}
+use Rattle.program_link.specs.Programs.{conditions, normals_behind, pred_made, beside, is_reported, entries_or_any, program_of}
 use Rattle.program_link.specs.declared.drafts.Draft.{Draft}
 use Rattle.program_link.specs.declared.drafts.UnitPred.{UnitPred}
 use Rattle.program_link.specs.declared.outcomes.RoomFault.{RoomFault}
 use Rattle.program_link.specs.declared.outcomes.RoomFault.TheVariants as room
+use Rattle.program_link.specs.declared.programs.ProgramFault.{ProgramFault}
+use Rattle.program_link.specs.declared.programs.ProgramFault.TheVariants as fault
 use Rattle.program_link.specs.declared.programs.ProgramParts.{ProgramParts}
 
 -- why something is not made: the grammar has no room for it; memory may be refused at any
 abbrev pub IsNoRoom : {A : Type 0} → Option A → RoomFault → Type 0
 IsNoRoom made room.TooManyNames = made ≡ None
 IsNoRoom made room.NoMemory = Unit {0}
+
+-- why files have no program, with the names as they were; memory may be refused at any
+abbrev pub IsNoProgram : List Word → List File → ProgramFault → Type 0
+IsNoProgram names files (fault.TooManyNames back) = (program_of names files ≡ None) × (back ≡ names)
+IsNoProgram names files fault.NoMemory = Unit {0}
 
 -- drafts
 
@@ -82,10 +90,17 @@ draft_held sources p = record {
 abbrev pub drafts_held : List Source → List Draft
 drafts_held sources = map (draft_held sources) (unit_preds_from 0 sources)
 
--- no assertion about a predicate is in trouble, and none of its clauses has a problem
-pub record IsSound (names : List Word) (settings : List Setting) (d : Draft) : Type 0 where
-  pub asserted : (s : Setting) → slice_get settings d.unit ≡ Some s → least_trouble names s.scope.types d.assertions ≡ None
-  pub said : (s : Setting) → slice_get settings d.unit ≡ Some s → AllByRecursion (λ c. problem_of s.scope c.term ≡ None) d.clauses
+-- no assertion about a predicate is in trouble, where its unit has a setting
+abbrev pub HasNoTrouble : List Word → List Setting → Draft → Type 0
+HasNoTrouble names settings d = (s : Setting) → slice_get settings d.unit ≡ Some s → least_trouble names s.scope.types d.assertions ≡ None
+
+-- clauses in a setting have no problem
+abbrev pub AreClauses : Setting → List Sentence → Type 0
+AreClauses s clauses = AllByRecursion (λ c. problem_of s.scope c.term ≡ None) clauses
+
+-- none of the clauses of a predicate has a problem, where its unit has a setting
+abbrev pub HasNoProblem : List Setting → Draft → Type 0
+HasNoProblem settings d = (s : Setting) → slice_get settings d.unit ≡ Some s → AreClauses s d.clauses
 
 -- claims
 
@@ -125,28 +140,24 @@ claims_held normals first (s ∷ ss) =
 
 -- exports and entries
 
--- whether a predicate is one that the main unit exports
-abbrev pub is_main_held : List Source → ℕ → Indicator → Bool
-is_main_held [] at p = false
-is_main_held (main ∷ others) at p = (at == 0) && index_exports main.index p
+-- whether a predicate of the unit at a place is one that the main unit exports
+abbrev pub is_main_held : List Source → UnitPred → Bool
+is_main_held sources p = option_map_or (λ main. (p.unit == 0) && index_exports main.index p.indicator) (slice_get sources 0) false
 
 -- the numbers of those that the main unit exports
 abbrev pub exports_held : List Source → ℕ → List UnitPred → List ℕ
 exports_held sources n [] = []
-exports_held sources n (p ∷ ps) = (if is_main_held sources p.unit p.indicator then n ∷ [] else []) ++ exports_held sources (suc n) ps
+exports_held sources n (p ∷ ps) = (if is_main_held sources p then n ∷ [] else []) ++ exports_held sources (suc n) ps
 
--- the entries of a predicate, if the main unit exports it
-abbrev pub entries_where : Bool → ℕ → List Entry → List Entry
-entries_where wanted n entries = if wanted then entries_or_any n entries else []
-
--- the entries that the assertions of the predicate of a number give
-abbrev pub entries_at : List Normal → ℕ → List Entry
-entries_at normals n = option_map_or (λ m. m.entries) (slice_get normals n) []
+-- the entries of a predicate that is wanted, if its assertions give something
+abbrev pub entries_by : Bool → ℕ → Option Normal → List Entry
+entries_by wanted n None = []
+entries_by wanted n (Some m) = if wanted then entries_or_any n m.entries else []
 
 -- the entries of the predicates that the main unit exports
-abbrev pub entries_held : List Source → ℕ → List UnitPred → List Normal → List Entry
-entries_held sources n (p ∷ ps) (m ∷ ms) = entries_where (is_main_held sources p.unit p.indicator) n m.entries ++ entries_held sources (suc n) ps ms
-entries_held sources n ps ms = []
+abbrev pub entries_held : List Source → List Normal → ℕ → List UnitPred → List Entry
+entries_held sources normals n [] = []
+entries_held sources normals n (p ∷ ps) = entries_by (is_main_held sources p) n (slice_get normals n) ++ entries_held sources normals (suc n) ps
 
 -- programs
 
@@ -158,7 +169,7 @@ parts_with sources ps normals preds = record {
   conds = conditions normals;
   claims = claims_held normals 0 sources;
   exports = exports_held sources 0 ps;
-  entries = entries_held sources 0 ps normals;
+  entries = entries_held sources normals 0 ps;
 }
 
 -- the same by what the assertions of its predicates give
