@@ -1,2 +1,12 @@
 mod FaultLaws
 mod LeastLaws
+mod LowerLaws
+mod ProgramBodies
+mod ProgramClaims
+mod ProgramConditions
+mod ProgramFiles
+mod ProgramGrammars
+mod ProgramLists
+mod ProgramNames
+mod ProgramNormals
+mod ProgramRange

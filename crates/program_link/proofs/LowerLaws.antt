@@ -11,9 +11,12 @@ use Rattle.prog_data.specs.GrammarRange.{IsGrammar}
 use Rattle.assertion_read.specs.Readings.{assertion_of}
 use Rattle.assertion_read.specs.Ranges.{StaysInRange as AssertionStays}
 use Rattle.assertion_read.specs.declared.assertions.Assertion.{Assertion}
+use Rattle.assertion_normal.specs.Laws.{ConditionsAreNumbered, RangesGrow}
 use Rattle.assertion_normal.specs.Normals.{normalised}
 use Rattle.assertion_normal.specs.Ranges.{IsGrown, StaysInRange as NormalStays}
 use Rattle.assertion_normal.specs.declared.outcomes.Normal.{Normal}
+use Rattle.dcg_expand.specs.Ranges.{RulesStayInRange}
+use Rattle.fsyntax_expand.specs.Ranges.{ClausesStayInRange}
 use Rattle.regtype_grammar.specs.Grammars.{grammar_of}
 use Rattle.regtype_grammar.specs.RuleNames.{TypesGiveNamedRules}
 use Rattle.regtype_grammar.specs.TypeNames.{AreKindsBelow, are_seen, seen_types}
@@ -23,6 +26,8 @@ use Rattle.body_code.specs.Ranges.{Grows, StaysInRange as ClauseStays}
 use Rattle.body_code.specs.declared.faults.Compiled.{Compiled}
 use Rattle.body_code.specs.declared.faults.Indicator.{Indicator}
 use Rattle.body_code.specs.declared.scopes.Visible.{Visible}
+use Rattle.unit_scopes.specs.Imports.{type_modules}
+use Rattle.unit_scopes.specs.Sayings.{File}
 
 -- the assertion that a sentence in range is, is in range of the same names
 abbrev pub AssertionsAreInRange : Type 0
@@ -49,3 +54,16 @@ ClausesAreInRange = (visible : Visible) (file : ℕ) (s : Sentence) (old : Gramm
 abbrev pub NormalsAreInRange : Type 0
 NormalsAreInRange = (names : List (List ℕ)) (file : ℕ) (seen : List Seen) (old : Grammar) (pred first : ℕ) (list : List Assertion) (made : Grammar × Normal)
     → normalised names file seen old pred first list ≡ Some made → IsGrown seen old made.0 × NormalStays seen old list made.0 made.1
+
+-- all of them
+pub record LowerLaws : Type 0 where
+  pub rules : RulesStayInRange
+  pub sentences : ClausesStayInRange
+  pub assertions : AssertionsAreInRange
+  pub grammars : GrammarsAreInRange
+  pub seen : (files : List File) → are_seen (type_modules files) ≡ true
+  pub heads : HeadsAreInRange
+  pub clauses : ClausesAreInRange
+  pub conditions : ConditionsAreNumbered
+  pub grow : RangesGrow
+  pub normals : NormalsAreInRange

@@ -49,6 +49,12 @@ normal_more grow names size more number first d m le h =
       entries = each_more (λ e. list_all (is_prop_of arity size) e.pre ≡ true) (λ e. list_all (is_prop_of arity more) e.pre ≡ true) (λ e i. (grow arity size more le).1 e.pre i) m.entries h.entries;
     }
 
+pub normals_grow : RangesGrow → (names size more : ℕ) → size ≤ more → (number first : ℕ) (ds : List Draft) (ms : List Normal) → AreNormals names size number first ds ms → AreNormals names more number first ds ms
+normals_grow grow names size more le number first [] [] h = tt
+normals_grow grow names size more le number first [] (m ∷ ms) h = absurd h
+normals_grow grow names size more le number first (d ∷ ds) [] h = absurd h
+normals_grow grow names size more le number first (d ∷ ds) (m ∷ ms) h = (normal_more grow names size more number first d m le h.0, normals_grow grow names size more le (suc number) (length m.conds + first) ds ms h.1)
+
 -- the conditions so far, and one normal more
 conditions_push : (done : List Normal) (m : Normal) → length (conditions (done ++ m ∷ [])) ≡ length m.conds + length (conditions done)
 conditions_push [] m = let all : length (m.conds ++ []) ≡ length m.conds = ap length (append-nil m.conds) in omega (arith, all)
