@@ -1,5 +1,6 @@
 mod FaultLaws
 mod LeastLaws
+mod LinkedLaws
 mod LowerLaws
 mod ProgramBodies
 mod ProgramClaims
