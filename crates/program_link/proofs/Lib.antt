@@ -5,7 +5,6 @@ mod LowerLaws
 mod ProgramBodies
 mod ProgramClaims
 mod ProgramConditions
-mod ProgramFiles
 mod ProgramGrammars
 mod ProgramLists
 mod ProgramNames

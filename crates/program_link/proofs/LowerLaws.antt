@@ -8,15 +8,11 @@ use Rattle.ciao_reader.specs.declared.sentences.Sentence.{Sentence}
 use Rattle.prog_data.specs.declared.grammars.Grammar.{Grammar}
 use Rattle.prog_data.specs.declared.grammars.Seen.{Seen}
 use Rattle.prog_data.specs.GrammarRange.{IsGrammar}
-use Rattle.assertion_read.specs.Readings.{assertion_of}
-use Rattle.assertion_read.specs.Ranges.{StaysInRange as AssertionStays}
 use Rattle.assertion_read.specs.declared.assertions.Assertion.{Assertion}
-use Rattle.assertion_normal.specs.Laws.{ConditionsAreNumbered, RangesGrow}
+use Rattle.assertion_normal.specs.Laws.{IsOfPredicate, RangesGrow}
 use Rattle.assertion_normal.specs.Normals.{normalised}
 use Rattle.assertion_normal.specs.Ranges.{IsGrown, StaysInRange as NormalStays}
 use Rattle.assertion_normal.specs.declared.outcomes.Normal.{Normal}
-use Rattle.dcg_expand.specs.Ranges.{RulesStayInRange}
-use Rattle.fsyntax_expand.specs.Ranges.{ClausesStayInRange}
 use Rattle.regtype_grammar.specs.Grammars.{grammar_of}
 use Rattle.regtype_grammar.specs.RuleNames.{TypesGiveNamedRules}
 use Rattle.regtype_grammar.specs.TypeNames.{AreKindsBelow, are_seen, seen_types}
@@ -27,11 +23,8 @@ use Rattle.body_code.specs.declared.faults.Compiled.{Compiled}
 use Rattle.body_code.specs.declared.faults.Indicator.{Indicator}
 use Rattle.body_code.specs.declared.scopes.Visible.{Visible}
 use Rattle.unit_scopes.specs.Imports.{type_modules}
+use Rattle.unit_scopes.specs.Ranges.{FilesStayInRange}
 use Rattle.unit_scopes.specs.Sayings.{File}
-
--- the assertion that a sentence in range is, is in range of the same names
-abbrev pub AssertionsAreInRange : Type 0
-AssertionsAreInRange = (s : Sentence) (a : Assertion) → assertion_of s ≡ Some a → AssertionStays s a
 
 -- the grammar of types is in range, has the names of the types that are seen, and has no other atoms and functors than the fixed ones and those of the types
 pub record IsTypesGrammar (modules : List TypeModule) (g : Grammar) : Type 0 where
@@ -53,17 +46,14 @@ ClausesAreInRange = (visible : Visible) (file : ℕ) (s : Sentence) (old : Gramm
 -- what assertions give is in range, and the grammar behind them
 abbrev pub NormalsAreInRange : Type 0
 NormalsAreInRange = (names : List (List ℕ)) (file : ℕ) (seen : List Seen) (old : Grammar) (pred first : ℕ) (list : List Assertion) (made : Grammar × Normal)
-    → normalised names file seen old pred first list ≡ Some made → IsGrown seen old made.0 × NormalStays seen old list made.0 made.1
+    → normalised names file seen old pred first list ≡ Some made → IsGrown seen old made.0 × IsOfPredicate file pred first made.1 × NormalStays seen old list made.0 made.1
 
 -- all of them
 pub record LowerLaws : Type 0 where
-  pub rules : RulesStayInRange
-  pub sentences : ClausesStayInRange
-  pub assertions : AssertionsAreInRange
+  pub files : FilesStayInRange
   pub grammars : GrammarsAreInRange
   pub seen : (files : List File) → are_seen (type_modules files) ≡ true
   pub heads : HeadsAreInRange
   pub clauses : ClausesAreInRange
-  pub conditions : ConditionsAreNumbered
   pub grow : RangesGrow
   pub normals : NormalsAreInRange

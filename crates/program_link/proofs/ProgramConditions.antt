@@ -26,11 +26,11 @@ abbrev pub FollowOn : ℕ → List Cond → Type 0
 FollowOn n [] = Unit {0}
 FollowOn n (c ∷ cs) = (c.id ≡ n) × FollowOn (suc n) cs
 
-first_same : (a b : ℕ) (as bs : List ℕ) → a ∷ as ≡ b ∷ bs → a ≡ b
-first_same a b as bs e = cc
+first_same : (a b : ℕ) (ns ms : List ℕ) → a ∷ ns ≡ b ∷ ms → a ≡ b
+first_same a b ns ms e = cc
 
-rest_same : (a b : ℕ) (as bs : List ℕ) → a ∷ as ≡ b ∷ bs → as ≡ bs
-rest_same a b as bs e = cc
+rest_same : (a b : ℕ) (ns ms : List ℕ) → a ∷ ns ≡ b ∷ ms → ns ≡ ms
+rest_same a b ns ms e = cc
 
 follow_from : (n : ℕ) (cs : List Cond) → map (λ c. c.id) cs ≡ numbers_from n (length cs) → FollowOn n cs
 follow_from n [] e = tt

@@ -18,6 +18,7 @@ use Rattle.body_code.specs.Clauses.{indicator_of}
 use Rattle.body_code.specs.declared.faults.Indicator.{Indicator}
 use Rattle.body_code.specs.declared.scopes.Named.{Named}
 use Rattle.unit_scopes.specs.Indicators.{same_indicator, is_among}
+use Rattle.unit_scopes.specs.Ranges.{IsFileInRange}
 use Rattle.unit_scopes.specs.Sayings.{File}
 use Rattle.unit_scopes.specs.Numbering.{with_head, heads_behind, indicators, defines, is_clause_of as is_clause_about, clauses_of, asserted, assertions_of, first_pred, numbered}
 use Rattle.unit_scopes.specs.Imports.{gets, indicator_named, imported, type_indicator, type_of, type_modules_from, type_modules}
@@ -27,7 +28,6 @@ use Rattle.unit_scopes.specs.declared.sayings.Declared.{Declared}
 use Rattle.program_link.specs.Drafts.{draft_of, drafts_from, drafts}
 use Rattle.program_link.specs.declared.drafts.Draft.{Draft}
 use Rattle.program_link.proofs.LowerLaws.{HeadsAreInRange}
-use Rattle.program_link.proofs.ProgramFiles.{FileIn}
 use Rattle.program_link.proofs.ProgramLists.{each_append, each_map, each_more, each_passed, each_filter, Stand, stand_self, stand_parts}
 
 -- predicates
@@ -62,7 +62,7 @@ module _ (names : ℕ) where
   abbrev IndicatorIn : Indicator → Type 0
   IndicatorIn p = (p.name < names) × (p.arity ≤ greatest_arity)
 
-  draft_in : (at : ℕ) (f : File) → FileIn names f → (p : Indicator) → IndicatorIn p → DraftIn names (draft_of at f p)
+  draft_in : (at : ℕ) (f : File) → IsFileInRange names f → (p : Indicator) → IndicatorIn p → DraftIn names (draft_of at f p)
   draft_in at f h p is = record {
     name = is.0;
     arity = is.1;
@@ -72,10 +72,10 @@ module _ (names : ℕ) where
   }
 
   module _ (heads : HeadsAreInRange) where
-    indicators_in : (f : File) → FileIn names f → AllByRecursion IndicatorIn (indicators f)
+    indicators_in : (f : File) → IsFileInRange names f → AllByRecursion IndicatorIn (indicators f)
     indicators_in f h = heads_each IndicatorIn [] f.parts.clauses tt (each_more (IsSentenceInRange names) (λ s. (p : Indicator) → indicator_of s.term ≡ Some p → IndicatorIn p) (λ s is p e. heads names s p is e) f.parts.clauses h.clauses)
 
-    pub drafts_in : (at : ℕ) (fs : List File) → AllByRecursion (FileIn names) fs → AllByRecursion (DraftIn names) (drafts_from at fs)
+    pub drafts_in : (at : ℕ) (fs : List File) → AllByRecursion (IsFileInRange names) fs → AllByRecursion (DraftIn names) (drafts_from at fs)
     drafts_in at [] h = tt
     drafts_in at (f ∷ fs) h =
         each_append (DraftIn names) (map (draft_of at f) (indicators f)) (drafts_from (suc at) fs)
@@ -83,11 +83,11 @@ module _ (names : ℕ) where
 
   -- types
 
-  types_of_in : (f : File) → FileIn names f → (ds : List Declared) → AllByRecursion (λ t. AllByRecursion (IsSentenceInRange names) t.clauses) (map (type_of f) ds)
+  types_of_in : (f : File) → IsFileInRange names f → (ds : List Declared) → AllByRecursion (λ t. AllByRecursion (IsSentenceInRange names) t.clauses) (map (type_of f) ds)
   types_of_in f h [] = tt
   types_of_in f h (d ∷ ds) = (each_filter (IsSentenceInRange names) (is_clause_about (type_indicator d.name)) f.parts.clauses h.clauses, types_of_in f h ds)
 
-  pub types_in : (files : List File) (at : ℕ) (fs : List File) → AllByRecursion (FileIn names) fs → AllByRecursion (AreTypesInRange names) (type_modules_from files at fs)
+  pub types_in : (files : List File) (at : ℕ) (fs : List File) → AllByRecursion (IsFileInRange names) fs → AllByRecursion (AreTypesInRange names) (type_modules_from files at fs)
   types_in files at [] h = tt
   types_in files at (f ∷ fs) h = (types_of_in f h.0 f.parts.types, types_in files (suc at) fs h.1)
 
@@ -135,7 +135,7 @@ pub record SettingIn (names size : ℕ) (all : List Draft) (s : Setting) : Type 
   pub preds : AllByRecursion (HasDraft all) s.scope.preds
 
 module _ (names size : ℕ) (files : List File) where
-  pub settings_in : (at : ℕ) (fs : List File) → Stand files at fs → AllByRecursion (FileIn names) fs → AllByRecursion (AreKindsBelow size) (map (λ m. kinds_of (first_names (type_modules files)) m.visible) (type_modules_from files at fs))
+  pub settings_in : (at : ℕ) (fs : List File) → Stand files at fs → AllByRecursion (IsFileInRange names) fs → AllByRecursion (AreKindsBelow size) (map (λ m. kinds_of (first_names (type_modules files)) m.visible) (type_modules_from files at fs))
       → AllByRecursion (SettingIn names size (drafts files)) (settings_from files at fs)
   settings_in at [] s h k = tt
   settings_in at (f ∷ fs) s h k =

@@ -1,20 +1,14 @@
 -- What the assertions of all predicates give is in range.
 use Rattle.std.proofs.Common.{◌≡◌, ℕ, suc, ◌+◌, ◌<◌, ◌≤◌, true, List, [], ◌∷◌, ◌++◌, length, refl, ap, sym, ◌∙◌, subst, append_assoc, append-nil, length-append, arith}
-use Rattle.std.specs.Prelude.{slice_get, Option, Some, None, option_map, option_and_then}
+use Rattle.std.specs.Prelude.{slice_get, Option, Some, None, option_and_then}
 use Rattle.std.specs.List.{list_all, AllByRecursion}
 use Rattle.std.proofs.lemmas.List.{length_push}
 use Rattle.term_core.specs.Names.{fixed_names}
 use Rattle.term_core.proofs.OperandLaws.{none_part, some_part}
 use Rattle.prog_data.specs.declared.grammars.Grammar.{Grammar}
-use Rattle.prog_data.specs.declared.grammars.Seen.{Seen}
 use Rattle.prog_data.specs.Ranges.{is_prop_of, is_kind_of}
-use Rattle.assertion_read.specs.declared.assertions.Assertion.{Assertion}
-use Rattle.assertion_normal.specs.Conditions.{normal_of}
-use Rattle.assertion_normal.specs.Laws.{IsOfPredicate, ConditionsAreNumbered, RangesGrow}
-use Rattle.assertion_normal.specs.Normals.{given, normalised}
-use Rattle.assertion_normal.specs.Settling.{all_settled}
+use Rattle.assertion_normal.specs.Laws.{IsOfPredicate, RangesGrow}
 use Rattle.assertion_normal.specs.declared.outcomes.Normal.{Normal}
-use Rattle.assertion_normal.specs.declared.settling.Settled.{Settled}
 use Rattle.unit_scopes.specs.declared.settings.Setting.{Setting}
 use Rattle.program_link.specs.Programs.{conditions, next_normal, normals_behind}
 use Rattle.program_link.specs.declared.drafts.Draft.{Draft}
@@ -64,16 +58,7 @@ conditions_push (x ∷ xs) m =
     let before : length (x.conds ++ conditions xs) ≡ length x.conds + length (conditions xs) = length-append x.conds (conditions xs) in
     omega (arith, rest, longer, before)
 
--- what assertions give is about their predicate
-owned_by : ConditionsAreNumbered → (names : List (List ℕ)) (file : ℕ) (seen : List Seen) (g : Grammar) (pred first : ℕ) (list : List Assertion) (made : Grammar × Normal)
-    → normalised names file seen g pred first list ≡ Some made → IsOfPredicate file pred first made.1
-owned_by law names file seen g pred first list made e = by (all_settled names seen g list) e
-  where
-    by : (o : Option (Grammar × List Settled)) → option_map (given names file seen g pred first list) o ≡ Some made → IsOfPredicate file pred first made.1
-    by None e' = absurd (none_part made e')
-    by (Some x) e' = subst (λ r. IsOfPredicate file pred first r.1) (some_part (x.0, normal_of file pred first x.1) made e') (law file pred first x.1)
-
-module _ (grow : RangesGrow) (law : ConditionsAreNumbered) (normals_stay : NormalsAreInRange) (names : List (List ℕ)) (fixed : length fixed_names ≤ length names) (size : ℕ) (all : List Draft) where
+module _ (grow : RangesGrow) (normals_stay : NormalsAreInRange) (names : List (List ℕ)) (fixed : length fixed_names ≤ length names) (size : ℕ) (all : List Draft) where
   -- what the next assertions give
   record NextIn (g : Grammar) (number first : ℕ) (d : Draft) (made : Grammar × Normal) : Type 0 where
     grammar : GrammarIn names size made.0
@@ -87,14 +72,14 @@ module _ (grow : RangesGrow) (law : ConditionsAreNumbered) (normals_stay : Norma
       let both = normals_stay names s.file seen g (length done) (length (conditions done)) d.assertions made e in
       let below = kinds_more size (length g.rules) seen h.enough setting.types in
       let longer = prefix_longer g.rules made.0.rules both.0.grows.front in
-      let ranged = both.1 (length names) d.indicator.arity h.range below draft.assertions in
+      let ranged = both.2 (length names) d.indicator.arity h.range below draft.assertions in
       record {
         grammar = grammar_grows names fixed size g made.0 h longer (λ is. both.0.range is below) both.0.named;
         longer = longer;
         normal = record {
           file = s.file;
           named = setting.file;
-          owned = owned_by law names s.file seen g (length done) (length (conditions done)) d.assertions made e;
+          owned = both.1;
           conds = ranged.conds;
           entries = ranged.entries;
         };

@@ -19,6 +19,7 @@ use Rattle.assertion_normal.specs.declared.outcomes.Normal.{Normal}
 use Rattle.regtype_grammar.specs.Grammars.{grammar_of}
 use Rattle.ciao_modules.specs.UnitRanges.{AreUnitsInRange}
 use Rattle.ciao_modules.specs.declared.units.Unit.{Unit as Loaded}
+use Rattle.unit_scopes.specs.Ranges.{IsFileInRange}
 use Rattle.unit_scopes.specs.Sayings.{File, file_of}
 use Rattle.unit_scopes.specs.Imports.{type_modules}
 use Rattle.unit_scopes.specs.Settings.{settings}
@@ -30,7 +31,6 @@ use Rattle.program_link.proofs.LowerLaws.{LowerLaws}
 use Rattle.program_link.proofs.ProgramBodies.{HasArities, ClauseIn, PredIn, is_less, preds_made}
 use Rattle.program_link.proofs.ProgramClaims.{claims_each, claims_in, exports_in, entries_in}
 use Rattle.program_link.proofs.ProgramConditions.{id_at, IsFound, found_all, of_one, conditions_follow, own_only, calls_first, CondIn, conds_in}
-use Rattle.program_link.proofs.ProgramFiles.{FileIn, files_in}
 use Rattle.program_link.proofs.ProgramGrammars.{GrammarIn, Beside}
 use Rattle.program_link.proofs.ProgramLists.{each_map, each_test, each_more, each_at, Stand, stand_self}
 use Rattle.program_link.proofs.ProgramNames.{DraftIn, SettingIn, drafts_in, types_in, settings_in}
@@ -105,7 +105,7 @@ module _ (names : List (List ℕ)) (files : List File) (normals : List Normal) (
   abbrev size : ℕ
   size = length made.0.rules
 
-  module _ (base : ℕ) (files_are : AllByRecursion (FileIn (length names)) files) (drafts_are : AllByRecursion (DraftIn (length names)) (drafts files)) (normals_are : AreNormals (length names) size 0 0 (drafts files) normals) (grammar_is : GrammarIn names base made.0)
+  module _ (base : ℕ) (files_are : AllByRecursion (IsFileInRange (length names)) files) (drafts_are : AllByRecursion (DraftIn (length names)) (drafts files)) (normals_are : AreNormals (length names) size 0 0 (drafts files) normals) (grammar_is : GrammarIn names base made.0)
       (preds_are : Beside (PredIn names (drafts files) size) (beside (drafts files) normals) made.1) where
     has : HasArities (drafts files) whole
     has k d e = arities names (drafts files) size 0 0 (drafts files) normals made.1 normals_are preds_are k d e
@@ -139,7 +139,7 @@ module _ (names : List (List ℕ)) (files : List File) (normals : List Normal) (
     in_range = record {
       ops = refl;
       files = each_test (is_name_of whole) (map (λ f. f.unit.file) files)
-          (each_map (λ n. is_name_of whole n ≡ true) (λ f. f.unit.file) files (each_more (FileIn (length names)) (λ f. is_name_of whole f.unit.file ≡ true) (λ f is. is_less f.unit.file (length names) is.file) files files_are));
+          (each_map (λ n. is_name_of whole n ≡ true) (λ f. f.unit.file) files (each_more (IsFileInRange (length names)) (λ f. is_name_of whole f.unit.file ≡ true) (λ f is. is_less f.unit.file (length names) is.file) files files_are));
       preds = pred_in_range;
       conds = cond_in_range;
       claims = each_test (is_claim_of whole) (claims_from normals 0 files)
@@ -165,8 +165,8 @@ module _ (lower : LowerLaws) (names : List (List ℕ)) (units : List Loaded) (fi
   abbrev Ranged : Type 0
   Ranged = IsProgram program × IsLinked program
 
-  files_are_in : AllByRecursion (FileIn (length names)) files_of
-  files_are_in = files_in lower.rules lower.sentences lower.assertions (length names) fixed (length units) units units_are.all
+  files_are_in : AllByRecursion (IsFileInRange (length names)) files_of
+  files_are_in = lower.files (length names) (length units) units fixed units_are.all
 
   drafts_are_in : AllByRecursion (DraftIn (length names)) (drafts files_of)
   drafts_are_in = drafts_in (length names) lower.heads 0 files_of files_are_in
@@ -180,7 +180,7 @@ module _ (lower : LowerLaws) (names : List (List ℕ)) (units : List Loaded) (fi
     by_normals : (given : Grammar × List Normal) → normals_behind names (settings files_of) (g, []) (drafts files_of) ≡ Some given → program_by names files_of given ≡ Some program → Ranged
     by_normals given e e' = by (in_order (pred_made (settings files_of)) (given.0, []) (beside (drafts files_of) given.1)) refl e'
       where
-        first = normals_made lower.grow lower.conditions lower.normals names fixed (length g.rules) (drafts files_of) (settings files_of) settings_are g [] (drafts files_of) given grammar_is drafts_are_in e
+        first = normals_made lower.grow lower.normals names fixed (length g.rules) (drafts files_of) (settings files_of) settings_are g [] (drafts files_of) given grammar_is drafts_are_in e
 
         by : (o : Option (Grammar × List Pred)) → in_order (pred_made (settings files_of)) (given.0, []) (beside (drafts files_of) given.1) ≡ o → option_map (program_with names files_of given.1) o ≡ Some program → Ranged
         by None i e'' = absurd (none_part program e'')
@@ -204,7 +204,7 @@ module _ (lower : LowerLaws) (names : List (List ℕ)) (units : List Loaded) (fi
       let grammar = record {
         range = of.range;
         enough = omega arith;
-        named = λ other is. of.named other (subst (λ ns. length fixed_names ≤ length ns) (sym is) fixed) (types_in (length other.names) files_of 0 files_of (subst (λ ns. AllByRecursion (FileIn (length ns)) files_of) (sym is) files_are_in));
+        named = λ other is. of.named other (subst (λ ns. length fixed_names ≤ length ns) (sym is) fixed) (types_in (length other.names) files_of 0 files_of (subst (λ ns. AllByRecursion (IsFileInRange (length ns)) files_of) (sym is) files_are_in));
       } in
       by_grammar g grammar (settings_in (length names) (length g.rules) files_of 0 files_of (stand_self files_of) files_are_in of.seen) (normals_behind names (settings files_of) (g, []) (drafts files_of)) refl e
 

@@ -1,3 +1,4 @@
+mod FileRanges
 mod GroupLaws
 mod IndexLaws
 mod NumberLaws

@@ -5,3 +5,4 @@ pub mod Imports
 pub mod Settings
 pub mod Sources
 pub mod Groups
+pub mod Ranges

@@ -4,6 +4,7 @@
 mod groups;
 mod indexes;
 mod indicators;
+mod ranges;
 mod sayings;
 mod scopes;
 mod settings;
@@ -11,6 +12,7 @@ mod sources;
 mod visible;
 
 pub use indexes::{Index, Wanted, exported};
+pub use ranges::files_in_range_law;
 pub use sayings::{Broken, Declared, Parts};
 pub use settings::Setting;
 pub use sources::{Source, sources_of};

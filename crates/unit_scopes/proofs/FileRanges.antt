@@ -1,5 +1,5 @@
 -- The files of units in range.
-use Rattle.std.proofs.Common.{◌≡◌, ℕ, ◌<◌, ◌≤◌, Bool, true, false, List, [], ◌∷◌, map, length, refl, subst}
+use Rattle.std.proofs.Common.{◌≡◌, ℕ, ◌<◌, ◌≤◌, Bool, true, false, List, [], ◌∷◌, ◌++◌, map, length, refl, subst}
 use Rattle.std.specs.Prelude.{cond, ◌==◌, ◌&&◌, Option, Some, None, option_and_then}
 use Rattle.std.specs.List.{list_all, AllByRecursion}
 use Rattle.term_core.specs.Names.{fixed_names}
@@ -16,7 +16,7 @@ use Rattle.dcg_expand.specs.Ranges.{RulesStayInRange}
 use Rattle.fsyntax_expand.specs.Expansion.{FunctionalExpanded}
 use Rattle.fsyntax_expand.specs.Ranges.{ClausesStayInRange}
 use Rattle.assertion_read.specs.Readings.{assertion_of}
-use Rattle.assertion_read.specs.Ranges.{IsAssertionInRange}
+use Rattle.assertion_read.specs.Ranges.{IsAssertionInRange, AssertionsStayInRange}
 use Rattle.assertion_read.specs.declared.assertions.Assertion.{Assertion}
 use Rattle.regtype_grammar.specs.Declarations.{declared_type}
 use Rattle.ciao_modules.specs.Directives.{is_declaration}
@@ -26,17 +26,13 @@ use Rattle.unit_scopes.specs.Sayings.{after_dcg, after_fsyntax, expanded, has_he
 use Rattle.unit_scopes.specs.declared.sayings.Parts.{Parts}
 use Rattle.unit_scopes.specs.declared.sayings.Saying.{Saying}
 use Rattle.unit_scopes.specs.declared.sayings.Saying.TheVariants.{Clauses, Asserts, Declares, Passes, Breaks}
-use Rattle.program_link.proofs.LowerLaws.{AssertionsAreInRange}
-use Rattle.program_link.proofs.ProgramLists.{each_append}
+use Rattle.unit_scopes.specs.Ranges.{IsFileInRange, FilesStayInRange}
 
--- a file whose names are below a number, with the variables of each clause below their number
-pub record FileIn (names : ℕ) (f : File) : Type 0 where
-  pub file : f.unit.file < names
-  pub name : f.unit.name < names
-  pub clauses : AllByRecursion (IsSentenceInRange names) f.parts.clauses
-  pub assertions : AllByRecursion (IsAssertionInRange names) f.parts.assertions
+each_append : {A : Type 0} (P : A → Type 0) (xs ys : List A) → AllByRecursion P xs → AllByRecursion P ys → AllByRecursion P (xs ++ ys)
+each_append P [] ys h k = k
+each_append P (x ∷ xs) ys h k = (h.0, each_append P xs ys h.1 k)
 
-module _ (rules_stay : RulesStayInRange) (clauses_stay : ClausesStayInRange) (assertions_stay : AssertionsAreInRange) (names : ℕ) (fixed : length fixed_names ≤ names) where
+module _ (rules_stay : RulesStayInRange) (clauses_stay : ClausesStayInRange) (assertions_stay : AssertionsStayInRange) (names : ℕ) (fixed : length fixed_names ≤ names) where
   abbrev SentenceIn : Sentence → Type 0
   SentenceIn s = IsSentenceInRange names s
 
@@ -123,11 +119,14 @@ module _ (rules_stay : RulesStayInRange) (clauses_stay : ClausesStayInRange) (as
   behind_in dcg fsyntax p (s ∷ ss) h k =
       behind_in dcg fsyntax (with_saying p (saying dcg fsyntax s)) ss (with_in p (saying dcg fsyntax s) h (said_in dcg fsyntax s k.0 (single_of NECK (out-Term s.term)))) k.1
 
-  file_in : (count : ℕ) (u : Loaded) → IsUnitInRange names count u → FileIn names (file_of u)
+  file_in : (count : ℕ) (u : Loaded) → IsUnitInRange names count u → IsFileInRange names (file_of u)
   file_in count u h =
       let parts = behind_in u.dcg u.fsyntax no_parts u.sentences (tt, tt) h.sentences in
       record { file = h.file; name = h.name; clauses = parts.0; assertions = parts.1 }
 
-  pub files_in : (count : ℕ) (units : List Loaded) → AllByRecursion (IsUnitInRange names count) units → AllByRecursion (FileIn names) (map file_of units)
+  files_in : (count : ℕ) (units : List Loaded) → AllByRecursion (IsUnitInRange names count) units → AllByRecursion (IsFileInRange names) (map file_of units)
   files_in count [] h = tt
   files_in count (u ∷ us) h = (file_in count u h.0, files_in count us h.1)
+
+pub files_stay : RulesStayInRange → ClausesStayInRange → AssertionsStayInRange → FilesStayInRange
+files_stay rules_stay clauses_stay assertions_stay names count units fixed h = files_in rules_stay clauses_stay assertions_stay names fixed count units h
