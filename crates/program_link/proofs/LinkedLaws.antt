@@ -38,7 +38,7 @@ last_told (Some a) [] f e = by (is_before f a) e
 last_told found (g ∷ gs) f e = last_told (sooner found (Some g)) gs f e
 
 module _ (names : List (List ℕ)) (units : List Loaded) where
-  files_of : List File
+  abbrev files_of : List File
   files_of = map file_of units
 
   -- where the types have a fault, there is a first one

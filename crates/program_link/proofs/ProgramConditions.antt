@@ -94,7 +94,7 @@ module _ (names size : ℕ) where
   own_only p number first ds [] k m i h e = absurd (none_part m e)
   own_only p number first [] (x ∷ xs) k m i h e = absurd h
   own_only p number first (d ∷ ds) (x ∷ xs) zero m i h e =
-      let test = λ c. c.pred == p in
+      let test : Cond → Bool = λ c. c.pred == p in
       let is : p ≡ 0 + number = i in
       let same : number ≡ p = omega (arith, is) in
       filter_append test x.conds (conditions xs)
@@ -103,7 +103,7 @@ module _ (names size : ℕ) where
       ∙ append-nil x.conds
       ∙ ap (λ y. y.conds) (some_part x m e)
   own_only p number first (d ∷ ds) (x ∷ xs) (suc k) m i h e =
-      let test = λ c. c.pred == p in
+      let test : Cond → Bool = λ c. c.pred == p in
       let is : p ≡ suc k + number = i in
       filter_append test x.conds (conditions xs)
       ∙ ap (λ zs. zs ++ filter test (conditions xs)) (filter_none test x.conds (each_more (IsConditionOf h.0.file number) (λ c. test c ≡ false) (λ c of. is_less_other c.pred number p of.pred (omega (arith, is))) x.conds h.0.owned.conds))
@@ -119,7 +119,7 @@ each_drop P (suc n) (x ∷ xs) h = each_drop P n xs h.1
 pub calls_first : (program : Program) (conds : List Cond) (numbers : List ℕ) → numbers ≡ map (λ c. c.id) conds → AllByRecursion (IsFound program.conds) conds → AllByRecursion (λ c. is_calls (Some c.kind) ≡ false) (drop 1 conds)
     → list_all (λ c. not (is_calls (kind_of program c))) (drop 1 numbers) ≡ true
 calls_first program conds numbers e found none =
-    let test = λ n. not (is_calls (kind_of program n)) in
+    let test : ℕ → Bool = λ n. not (is_calls (kind_of program n)) in
     let each = each_both (IsFound program.conds) (λ c. is_calls (Some c.kind) ≡ false) (drop 1 conds) (each_drop (IsFound program.conds) 1 conds found) none in
     ap (λ ns. list_all test (drop 1 ns)) e
     ∙ ap (list_all test) (drop-map (λ c. c.id) 1 conds)
@@ -148,7 +148,7 @@ module _ (program : Program) (names : ℕ) (all : List Draft) (has : HasArities 
   conds_in number first [] (m ∷ ms) s h = absurd h
   conds_in number first (d ∷ ds) [] s h = absurd h
   conds_in number first (d ∷ ds) (m ∷ ms) s h =
-      let kind = λ c. is_kind_of d.indicator.arity (length program.grammar.rules) c.kind ≡ true in
+      let kind : Cond → Type 0 = λ c. is_kind_of d.indicator.arity (length program.grammar.rules) c.kind ≡ true in
       each_append (CondIn program names) m.conds (conditions ms)
       (each_more (λ c. IsConditionOf h.0.file number c × kind c) (CondIn program names) (λ c held. cond_in number h.0.file d c h.0.named s.0 held.0 held.1) m.conds (each_both (IsConditionOf h.0.file number) kind m.conds h.0.owned.conds h.0.conds))
       (conds_in (suc number) (length m.conds + first) ds ms s.1 h.1)

@@ -123,7 +123,7 @@ module _ (all : List Draft) where
   imported_numbered f at n [] h = tt
   imported_numbered f at n (g ∷ gs) h =
       let parts = file_parts at n g gs h in
-      let test = λ m. gets f at g (indicator_named m) && not (defines f (indicator_named m)) in
+      let test : Named → Bool = λ m. gets f at g (indicator_named m) && not (defines f (indicator_named m)) in
       each_append (HasDraft all) (filter test (numbered n (indicators g))) (imported f (suc at) (length (indicators g) + n) gs)
       (each_filter (HasDraft all) test (numbered n (indicators g)) (numbered_stand n at g (indicators g) parts.0)) (imported_numbered f (suc at) (length (indicators g) + n) gs parts.1)
 

@@ -34,7 +34,7 @@ use Rattle.program_link.proofs.ProgramConditions.{id_at, IsFound, found_all, of_
 use Rattle.program_link.proofs.ProgramGrammars.{GrammarIn, Beside}
 use Rattle.program_link.proofs.ProgramLists.{each_map, each_test, each_more, each_at, Stand, stand_self}
 use Rattle.program_link.proofs.ProgramNames.{DraftIn, SettingIn, drafts_in, types_in, settings_in}
-use Rattle.program_link.proofs.ProgramNormals.{AreNormals, normals_grow, normals_made}
+use Rattle.program_link.proofs.ProgramNormals.{AreNormals, NormalsMade, normals_grow, normals_made}
 
 -- predicates by their numbers
 
@@ -159,7 +159,7 @@ module _ (names : List (List ℕ)) (files : List File) (normals : List Normal) (
 -- the program of files
 
 module _ (lower : LowerLaws) (names : List (List ℕ)) (units : List Loaded) (fixed : length fixed_names ≤ length names) (units_are : AreUnitsInRange (length names) units) (program : Program) where
-  files_of : List File
+  abbrev files_of : List File
   files_of = map file_of units
 
   abbrev Ranged : Type 0
@@ -180,6 +180,7 @@ module _ (lower : LowerLaws) (names : List (List ℕ)) (units : List Loaded) (fi
     by_normals : (given : Grammar × List Normal) → normals_behind names (settings files_of) (g, []) (drafts files_of) ≡ Some given → program_by names files_of given ≡ Some program → Ranged
     by_normals given e e' = by (in_order (pred_made (settings files_of)) (given.0, []) (beside (drafts files_of) given.1)) refl e'
       where
+        first : NormalsMade lower.grow lower.normals names fixed (length g.rules) (drafts files_of) g [] (drafts files_of) given
         first = normals_made lower.grow lower.normals names fixed (length g.rules) (drafts files_of) (settings files_of) settings_are g [] (drafts files_of) given grammar_is drafts_are_in e
 
         by : (o : Option (Grammar × List Pred)) → in_order (pred_made (settings files_of)) (given.0, []) (beside (drafts files_of) given.1) ≡ o → option_map (program_with names files_of given.1) o ≡ Some program → Ranged
@@ -201,7 +202,7 @@ module _ (lower : LowerLaws) (names : List (List ℕ)) (units : List Loaded) (fi
   of_types : (g : Grammar) → grammar_of (type_modules files_of) ≡ Some g → option_and_then (program_by names files_of) (normals_behind names (settings files_of) (g, []) (drafts files_of)) ≡ Some program → Ranged
   of_types g i e =
       let of = lower.grammars (type_modules files_of) g (lower.seen files_of) i in
-      let grammar = record {
+      let grammar : GrammarIn names (length g.rules) g = record {
         range = of.range;
         enough = omega arith;
         named = λ other is. of.named other (subst (λ ns. length fixed_names ≤ length ns) (sym is) fixed) (types_in (length other.names) files_of 0 files_of (subst (λ ns. AllByRecursion (IsFileInRange (length ns)) files_of) (sym is) files_are_in));
