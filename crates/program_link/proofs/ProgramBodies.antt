@@ -20,6 +20,7 @@ use Rattle.assertion_normal.specs.Settling.{in_order}
 use Rattle.assertion_normal.specs.declared.outcomes.Normal.{Normal}
 use Rattle.body_code.specs.Clauses.{indicator_of, body_term, body_goal, clause_with, compiled_with, compiled}
 use Rattle.body_code.specs.Making.{made as made_so, followed}
+use Rattle.body_code.specs.Ranges.{ClausesAreInRange}
 use Rattle.body_code.specs.declared.faults.Compiled.{Compiled}
 use Rattle.body_code.specs.declared.faults.Indicator.{Indicator}
 use Rattle.body_code.specs.declared.scopes.Visible.{Visible}
@@ -28,7 +29,6 @@ use Rattle.unit_scopes.specs.Numbering.{is_clause_of as is_clause_about}
 use Rattle.unit_scopes.specs.declared.settings.Setting.{Setting}
 use Rattle.program_link.specs.Programs.{clause_made, pred_with, pred_in, pred_made}
 use Rattle.program_link.specs.declared.drafts.Draft.{Draft}
-use Rattle.program_link.proofs.LowerLaws.{ClausesAreInRange}
 use Rattle.program_link.proofs.ProgramGrammars.{prefix_longer, kinds_more, GrammarIn, grammar_grows, Beside, order_made}
 use Rattle.program_link.proofs.ProgramLists.{each_more, each_at}
 use Rattle.program_link.proofs.ProgramNames.{DraftIn, HasDraft, SettingIn}

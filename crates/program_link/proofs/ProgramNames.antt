@@ -15,6 +15,7 @@ use Rattle.assertion_normal.specs.Ranges.{AreAbout}
 use Rattle.regtype_grammar.specs.RuleNames.{AreTypesInRange}
 use Rattle.regtype_grammar.specs.TypeNames.{AreKindsBelow, first_names, numbered as kinds_of}
 use Rattle.body_code.specs.Clauses.{indicator_of}
+use Rattle.body_code.specs.Ranges.{HeadsAreInRange}
 use Rattle.body_code.specs.declared.faults.Indicator.{Indicator}
 use Rattle.body_code.specs.declared.scopes.Named.{Named}
 use Rattle.unit_scopes.specs.Indicators.{same_indicator, is_among}
@@ -27,7 +28,6 @@ use Rattle.unit_scopes.specs.declared.settings.Setting.{Setting}
 use Rattle.unit_scopes.specs.declared.sayings.Declared.{Declared}
 use Rattle.program_link.specs.Drafts.{draft_of, drafts_from, drafts}
 use Rattle.program_link.specs.declared.drafts.Draft.{Draft}
-use Rattle.program_link.proofs.LowerLaws.{HeadsAreInRange}
 use Rattle.program_link.proofs.ProgramLists.{each_append, each_map, each_more, each_passed, each_filter, Stand, stand_self, stand_parts}
 
 -- predicates

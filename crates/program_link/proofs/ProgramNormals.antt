@@ -7,12 +7,11 @@ use Rattle.term_core.specs.Names.{fixed_names}
 use Rattle.term_core.proofs.OperandLaws.{none_part, some_part}
 use Rattle.prog_data.specs.declared.grammars.Grammar.{Grammar}
 use Rattle.prog_data.specs.Ranges.{is_prop_of, is_kind_of}
-use Rattle.assertion_normal.specs.Laws.{IsOfPredicate, RangesGrow}
+use Rattle.assertion_normal.specs.Laws.{IsOfPredicate, RangesGrow, NormalsAreInRange}
 use Rattle.assertion_normal.specs.declared.outcomes.Normal.{Normal}
 use Rattle.unit_scopes.specs.declared.settings.Setting.{Setting}
 use Rattle.program_link.specs.Programs.{conditions, next_normal, normals_behind}
 use Rattle.program_link.specs.declared.drafts.Draft.{Draft}
-use Rattle.program_link.proofs.LowerLaws.{NormalsAreInRange}
 use Rattle.program_link.proofs.ProgramGrammars.{prefix_longer, kinds_more, GrammarIn, grammar_grows}
 use Rattle.program_link.proofs.ProgramLists.{each_more, each_at}
 use Rattle.program_link.proofs.ProgramNames.{DraftIn, SettingIn}
@@ -69,17 +68,17 @@ module _ (grow : RangesGrow) (normals_stay : NormalsAreInRange) (names : List (L
       → next_normal names (g, done) d s ≡ Some made → NextIn g (length done) (length (conditions done)) d made
   next_in g done d s made h draft setting e =
       let seen = s.scope.types in
-      let both = normals_stay names s.file seen g (length done) (length (conditions done)) d.assertions made e in
+      let is_so = normals_stay names s.file seen g (length done) (length (conditions done)) d.assertions made e in
       let below = kinds_more size (length g.rules) seen h.enough setting.types in
-      let longer = prefix_longer g.rules made.0.rules both.0.grows.front in
-      let ranged = both.2 (length names) d.indicator.arity h.range below draft.assertions in
+      let longer = prefix_longer g.rules made.0.rules is_so.grown.grows.front in
+      let ranged = is_so.range (length names) d.indicator.arity h.range below draft.assertions in
       record {
-        grammar = grammar_grows names fixed size g made.0 h longer (λ is. both.0.range is below) both.0.named;
+        grammar = grammar_grows names fixed size g made.0 h longer (λ is. is_so.grown.range is below) is_so.grown.named;
         longer = longer;
         normal = record {
           file = s.file;
           named = setting.file;
-          owned = both.1;
+          owned = is_so.of_predicate;
           conds = ranged.conds;
           entries = ranged.entries;
         };

@@ -3,7 +3,7 @@ ghost use Rattle.std.specs.Prelude.{◌≡◌, length, map, Some, None, IfOk, If
 ghost use Rattle.term_core.specs.Names.{fixed_names};
 ghost use Rattle.prog_data.specs.Programs.{IsProgram, IsLinked};
 ghost use Rattle.ciao_modules.specs.UnitRanges.{AreUnitsInRange};
-ghost use Rattle.regtype_grammar.specs.Grammars.{grammar_of};
+ghost use Rattle.regtype_grammar.specs.Grammars.{grammar_of, IsTypeFault};
 ghost use Rattle.regtype_grammar.specs.TypeFaults.{refused};
 ghost use Rattle.unit_scopes.specs.Imports.{type_modules};
 ghost use Rattle.unit_scopes.specs.Sayings.{file_of};
@@ -16,14 +16,16 @@ ghost use Rattle.program_link.specs.Linked.{Linked, file_at, refusal_of, too_man
 use crate::faults::{Fault, least_fault, type_fault};
 use crate::outcomes::LinkFault;
 use crate::programs::{ProgramFault, program_of};
+use assertion_normal::{normals_in_range_law, ranges_grow_law};
+use body_code::compiled_in_range_law;
 use ciao_modules::Unit;
 use prog_data::{Grammar, Place, Program, Refusal, RefusalKind};
-use regtype_grammar::{TypeFault, TypeModule, grammar_of};
+use regtype_grammar::{TypeFault, TypeModule, grammar_of, grammars_in_range_law};
 use std::alloc::Global;
 use term_core::Names;
 use unit_scopes::{
-    Setting, Source, discard_modules, discard_sources, settings_of, sources_of, type_modules,
-    types_seen_law,
+    Setting, Source, discard_modules, discard_sources, files_in_range_law, settings_of, sources_of,
+    type_modules, types_seen_law,
 };
 
 // The file of the unit at a place.
@@ -82,6 +84,29 @@ fn untyped(
     }
 }
 
+// The fault that comes first, by why types have no grammar.
+fn refused(
+    names: Names,
+    units: &[Unit],
+    sources: &[Source],
+    settings: &[Setting],
+    fault: TypeFault,
+) -> LinkFault
+    requires sources { AreSources 0 0 (map file_of units.now) sources.now }
+    requires settings { settings.now ≡ settings (map file_of units.now) }
+    requires told { IsTypeFault (type_modules (map file_of units.now)) fault }
+    ensures { IsLinkFault names units.now result }
+{
+    let types = type_fault(&fault);
+    match fault {
+        TypeFault::NoMemory => LinkFault::NoMemory,
+        TypeFault::TooManyNames => untyped(names, units, sources, settings, types),
+        TypeFault::BadRegtype(_, _) => untyped(names, units, sources, settings, types),
+        TypeFault::UnknownProperty(_, _) => untyped(names, units, sources, settings, types),
+        TypeFault::Ambiguous(_, _) => untyped(names, units, sources, settings, types),
+    }
+}
+
 // The program, where types have this grammar.
 fn typed(
     alloc: Global,
@@ -127,11 +152,7 @@ fn link_types(
     let settings = settings_of(alloc, units, sources, modules)?;
     match grammar_of(alloc, &names, modules) {
         Ok(grammar) => typed(alloc, names, units, sources, settings.as_slice(), grammar),
-        Err(TypeFault::NoMemory) => Err(LinkFault::NoMemory),
-        Err(fault) => {
-            let types = type_fault(&fault);
-            Err(untyped(names, units, sources, settings.as_slice(), types))
-        }
+        Err(fault) => Err(refused(names, units, sources, settings.as_slice(), fault)),
     }
 }
 
@@ -163,6 +184,13 @@ pub fn link(alloc: Global, names: Names, units: &[Unit]) -> Result<Program, Link
     ensures range { IfOk result IsProgram }
     ensures as_linked { IfOk result IsLinked }
 {
+    let _ = names.len(); // for the proof
+    files_in_range_law();
+    types_seen_law();
+    grammars_in_range_law();
+    compiled_in_range_law();
+    ranges_grow_law();
+    normals_in_range_law();
     let sources = sources_of(alloc, &names, units)?;
     let result = link_sources(alloc, names, units, sources.as_slice());
     discard_sources(sources);
