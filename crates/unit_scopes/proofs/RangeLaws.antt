@@ -19,9 +19,10 @@ use Rattle.assertion_read.specs.declared.assertions.Assertion.{Assertion}
 use Rattle.ciao_modules.specs.Directives.{is_declaration}
 use Rattle.ciao_modules.specs.UnitRanges.{IsUnitInRange, AreUnitsInRange}
 use Rattle.ciao_modules.specs.declared.units.Unit.{Unit}
+use Rattle.prog_data.specs.declared.refusals.RefusalKind.TheVariants.{BadClause}
 use Rattle.regtype_grammar.specs.Declarations.{declared_type}
 use Rattle.regtype_grammar.specs.RuleNames.{IsTypeInRange, AreTypesInRange}
-use Rattle.unit_scopes.specs.Sayings.{after_dcg, after_fsyntax, expanded, has_head, clauses_said, assertion_said, type_said, declaration_said, directive_said, said_by, saying, with_saying, parts_behind, no_parts, parts_of_unit, File, file_of}
+use Rattle.unit_scopes.specs.Sayings.{after_dcg, after_fsyntax, expanded, has_head, breaks, clauses_said, assertion_said, type_said, declaration_said, directive_said, said_by, saying, with_saying, parts_behind, no_parts, parts_of_unit, File, file_of}
 use Rattle.unit_scopes.specs.Numbering.{is_clause_of, clauses_of}
 use Rattle.unit_scopes.specs.Imports.{type_indicator, type_of, type_modules_from, type_modules}
 use Rattle.unit_scopes.specs.Laws.{ClausesAreInRange, TypesAreInRange}
@@ -79,7 +80,7 @@ module _ (rules : RulesStayInRange) (clauses : ClausesStayInRange) (names : ℕ)
   clauses_said_in_range line None h = tt
   clauses_said_in_range line (Some ss) h = by (list_all has_head ss)
     where
-      by : (b : Bool) → IsSayingInRange names (cond b (Clauses ss) (clauses_said line None))
+      by : (b : Bool) → IsSayingInRange names (cond b (Clauses ss) (breaks line BadClause))
       by true = h ss refl
       by false = tt
 

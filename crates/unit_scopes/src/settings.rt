@@ -67,7 +67,7 @@ pub fn settings_of(
 ) -> Result<Items<Setting>, NoMemory>
     requires sources { AreSources 0 0 (map file_of units.now) sources.now }
     requires modules { modules.now ≡ type_modules (map file_of units.now) }
-    ensures { IfOk result (λ settings. settings ≡ settings (map file_of units.now)) }
+    ensures { IfOk result (λ made. made ≡ settings (map file_of units.now)) }
 {
     let firsts = first_kinds(alloc, modules)?;
     let settings = settings_held(alloc, firsts.as_slice(), sources)?;
