@@ -8,7 +8,7 @@ use Rattle.unit_scopes.specs.Numbering.{indicators, first_pred, numbered}
 use Rattle.unit_scopes.specs.Imports.{type_indicator, type_of, type_module, type_modules_from, type_modules}
 use Rattle.unit_scopes.specs.Settings.{setting_of, settings_from, settings}
 use Rattle.unit_scopes.specs.Sources.{IsSource, AreSources}
-use Rattle.unit_scopes.specs.Held.{type_held, module_held, scope_held, setting_held}
+use Rattle.unit_scopes.specs.Held.{type_held, module_held, setting_held}
 use Rattle.unit_scopes.specs.declared.sayings.Declared.{Declared}
 use Rattle.unit_scopes.specs.declared.sources.Source.{Source}
 use Rattle.unit_scopes.proofs.SourceLaws.{preds_given_are, types_given_are}

@@ -1,6 +1,6 @@
 -- The clauses at the places of a group are those of its predicate.
-use Rattle.std.proofs.Common.{◌≡◌, ◌<◌, ℕ, zero, suc, ◌+◌, Bool, true, false, not, ◌||◌, ◌==◌, List, [], ◌∷◌, ◌++◌, map, length, get_or, cond, refl, ap, sym, subst, ◌∙◌, true≢false, arith}
-use Rattle.std.specs.Prelude.{filter, slice_get, slice_index_or, position, nat_lt, Option, Some, None, option_and_then}
+use Rattle.std.proofs.Common.{◌≡◌, ◌<◌, ℕ, suc, ◌+◌, Bool, true, false, not, ◌||◌, ◌==◌, List, [], ◌∷◌, ◌++◌, length, get_or, cond, refl, ap, sym, ◌∙◌, true≢false, arith}
+use Rattle.std.specs.Prelude.{filter, slice_get, position, nat_lt, Option, Some, None, option_and_then}
 use Rattle.std.specs.List.{list_any, position_or_len}
 use Rattle.std.specs.Option.{option_map_or}
 use Rattle.std.proofs.lemmas.Bool.{eqb-true, or_parts}
@@ -13,7 +13,7 @@ use Rattle.body_code.specs.declared.faults.Indicator.{Indicator}
 use Rattle.unit_scopes.specs.Indicators.{same_indicator, is_among}
 use Rattle.unit_scopes.specs.Sayings.{File}
 use Rattle.unit_scopes.specs.Numbering.{with_head, heads_behind, indicators, is_clause_of, clauses_of}
-use Rattle.unit_scopes.specs.Groups.{is_at, places_of, clause_place, AreGroups}
+use Rattle.unit_scopes.specs.Groups.{is_at, places_of, clause_place}
 use Rattle.unit_scopes.specs.Sources.{IsSource}
 use Rattle.unit_scopes.specs.Held.{clause_at, clauses_at, group_at, clauses_held}
 use Rattle.unit_scopes.specs.declared.sources.Source.{Source}

@@ -1,5 +1,5 @@
 -- What units in range say is in range.
-use Rattle.std.proofs.Common.{◌≡◌, ◌≤◌, ℕ, suc, Bool, true, false, ◌&&◌, ◌==◌, List, [], ◌∷◌, ◌++◌, map, cond, refl, sym, subst, ◌∙◌}
+use Rattle.std.proofs.Common.{◌≡◌, ◌≤◌, ℕ, suc, Bool, true, false, ◌&&◌, ◌==◌, List, [], ◌∷◌, ◌++◌, map, cond, refl, subst}
 use Rattle.std.specs.Prelude.{⊤, filter, length, Option, Some, None, option_and_then}
 use Rattle.std.specs.List.{list_all, AllByRecursion}
 use Rattle.std.proofs.lemmas.Option.{none-some, same_Some}
@@ -12,19 +12,18 @@ use Rattle.ciao_reader.specs.Ranges.{IsSentenceInRange}
 use Rattle.ciao_reader.specs.declared.sentences.Sentence.{Sentence}
 use Rattle.dcg_expand.specs.Expansion.{DcgExpanded}
 use Rattle.dcg_expand.specs.Ranges.{RulesStayInRange}
-use Rattle.fsyntax_expand.specs.Expansion.{FunctionalExpanded}
 use Rattle.fsyntax_expand.specs.Ranges.{ClausesStayInRange}
 use Rattle.assertion_read.specs.Readings.{assertion_of}
 use Rattle.assertion_read.specs.declared.assertions.Assertion.{Assertion}
 use Rattle.ciao_modules.specs.Directives.{is_declaration}
-use Rattle.ciao_modules.specs.UnitRanges.{IsUnitInRange, AreUnitsInRange}
+use Rattle.ciao_modules.specs.UnitRanges.{IsUnitInRange}
 use Rattle.ciao_modules.specs.declared.units.Unit.{Unit}
 use Rattle.prog_data.specs.declared.refusals.RefusalKind.TheVariants.{BadClause}
 use Rattle.regtype_grammar.specs.Declarations.{declared_type}
 use Rattle.regtype_grammar.specs.RuleNames.{IsTypeInRange, AreTypesInRange}
 use Rattle.unit_scopes.specs.Sayings.{after_dcg, after_fsyntax, expanded, has_head, breaks, clauses_said, assertion_said, type_said, declaration_said, directive_said, said_by, saying, with_saying, parts_behind, no_parts, parts_of_unit, File, file_of}
-use Rattle.unit_scopes.specs.Numbering.{is_clause_of, clauses_of}
-use Rattle.unit_scopes.specs.Imports.{type_indicator, type_of, type_modules_from, type_modules}
+use Rattle.unit_scopes.specs.Numbering.{is_clause_of}
+use Rattle.unit_scopes.specs.Imports.{type_indicator, type_of, type_modules_from}
 use Rattle.unit_scopes.specs.Laws.{ClausesAreInRange, TypesAreInRange}
 use Rattle.unit_scopes.specs.declared.sayings.Declared.{Declared}
 use Rattle.unit_scopes.specs.declared.sayings.Parts.{Parts}

@@ -38,7 +38,7 @@ module _ (modules : List TypeModule) (at : ℕ) (one : TypeModule) (there : slic
   own_seen f position before [] stands = refl
   own_seen f position before (d ∷ ds) stands =
       all_joined (is_seen_in modules) (first_declared at position before d.name) (types_behind at (suc position) (with_new before d.name) ds)
-          (by (list_any (nat_eq d.name) before)) (own_seen f (suc position) (with_new before d.name) ds stands.1)
+      (by (list_any (nat_eq d.name) before)) (own_seen f (suc position) (with_new before d.name) ds stands.1)
     where
       seen : is_seen_in modules (record { name = d.name; «module» = at; position = position }) ≡ true
       seen = ap (is_within d.name position) there ∙ ap (has_type_name d.name) stands.0 ∙ same_name d.name
@@ -56,8 +56,8 @@ imported_seen : (files : List File) (modules : List TypeModule) (f : File) (at :
 imported_seen files modules f at [] stands = refl
 imported_seen files modules f at (g ∷ gs) stands =
     all_joined (is_seen_in modules) _ (imported_types f (suc at) gs)
-        (all_kept (is_seen_in modules) _ (own_types at g) (file_seen files modules at g stands.0))
-        (imported_seen files modules f (suc at) gs stands.1)
+    (all_kept (is_seen_in modules) _ (own_types at g) (file_seen files modules at g stands.0))
+    (imported_seen files modules f (suc at) gs stands.1)
 
 -- all that are seen
 modules_seen : (files : List File) (modules : List TypeModule) → StandsFrom modules 0 (type_modules files) → (at : ℕ) (fs : List File) → StandsFrom modules at (type_modules_from files at fs)
@@ -65,8 +65,8 @@ modules_seen : (files : List File) (modules : List TypeModule) → StandsFrom mo
 modules_seen files modules all at [] stands = refl
 modules_seen files modules all at (f ∷ fs) stands =
     and_from (list_all (is_seen_in modules) (own_types at f ++ imported_types f 0 files)) _
-        (all_joined (is_seen_in modules) (own_types at f) (imported_types f 0 files) (file_seen files modules at f stands.0) (imported_seen files modules f 0 files all))
-        (modules_seen files modules all (suc at) fs stands.1)
+    (all_joined (is_seen_in modules) (own_types at f) (imported_types f 0 files) (file_seen files modules at f stands.0) (imported_seen files modules f 0 files all))
+    (modules_seen files modules all (suc at) fs stands.1)
 
 pub types_are_seen : (files : List File) → are_seen (type_modules files) ≡ true
 types_are_seen files = let all = stands_all (type_modules files) in modules_seen files (type_modules files) all 0 files all

@@ -1,6 +1,6 @@
 -- What is made of what is held of units. Contracts of private functions alone.
 -- The headline does not rest on this file.
-use Rattle.std.specs.Prelude.{ℕ, List, [], ◌∷◌, ◌++◌, map, length, slice_get, slice_index_or, position, Option, Some, None}
+use Rattle.std.specs.Prelude.{ℕ, List, [], ◌∷◌, ◌++◌, map, slice_get, slice_index_or, position, Option, Some, None}
 use Rattle.ciao_reader.specs.declared.sentences.Sentence.{Sentence}
 use Rattle.regtype_grammar.specs.declared.modules.RegType.{RegType}
 use Rattle.regtype_grammar.specs.declared.modules.TypeModule.{TypeModule}

@@ -16,8 +16,8 @@ mod visible;
 
 pub use discarding::{discard_modules, discard_sources};
 pub use indexes::{Index, Wanted, exported};
-pub use sayings::{Broken, Declared, Parts};
 pub use laws::{types_in_range_law, types_seen_law};
+pub use sayings::{Broken, Declared, Parts};
 pub use settings::{Setting, settings_of};
 pub use sources::{Source, sources_of};
 pub use types::type_modules;

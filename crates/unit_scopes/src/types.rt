@@ -85,7 +85,10 @@ fn group_at(groups: &[Items<u64>], at: Option<u64>) -> &[u64]
 fn places_of(source: &Source, indicator: Indicator) -> &[u64]
     ensures { result.now ≡ places_held source.now indicator }
 {
-    group_at(source.clauses.as_slice(), find(&source.index.defined, indicator))
+    group_at(
+        source.clauses.as_slice(),
+        find(&source.index.defined, indicator),
+    )
 }
 
 // The clauses of a predicate.
@@ -166,11 +169,7 @@ fn types_of(alloc: Global, source: &Source) -> Result<Items<RegType>, NoMemory>
 }
 
 // The types of a unit, and those that are seen in it.
-fn type_module(
-    alloc: Global,
-    source: &Source,
-    sources: &[Source],
-) -> Result<TypeModule, NoMemory>
+fn type_module(alloc: Global, source: &Source, sources: &[Source]) -> Result<TypeModule, NoMemory>
     ensures { IfOk result (λ one. one ≡ module_held sources.now source.now) }
 {
     let visible = types_seen(alloc, source, sources)?;

@@ -1,4 +1,4 @@
-use Rattle.std.proofs.Common.{◌≡◌, ◌≤◌}
+use Rattle.std.proofs.Common.{◌≡◌}
 use Rattle.term_core.specs.declared.terms.Term.{size-Term}
 use Rattle.unit_scopes.specs.Copies.{closed_all}
 use Rattle.unit_scopes.proofs.copies.copied_term.Given as goal
