@@ -1,3 +1,4 @@
+pub mod SourceLaws
 pub mod Indicators
 pub mod Sayings
 pub mod Numbering

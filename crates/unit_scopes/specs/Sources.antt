@@ -1,4 +1,4 @@
--- What the code holds of a unit, found by name. Contracts of private functions alone.
+-- What the code holds of a unit, found by name.
 -- The headline does not rest on this file.
 use Rattle.std.specs.Prelude.{◌≡◌, ℕ, suc, ◌+◌, Bool, true, false, not, ◌&&◌, ◌||◌, ◌==◌, nat_eq, List, [], ◌∷◌, ◌++◌, filter, flat_map, length, slice_get, Option, Some, None, if◌then◌else◌}
 use Rattle.std.specs.Option.{option_map_or}
