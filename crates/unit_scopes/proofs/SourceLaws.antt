@@ -1,9 +1,10 @@
 -- What is held of units says what the units say of one another.
-use Rattle.std.proofs.Common.{◌≡◌, ◌<◌, ℕ, suc, ◌+◌, Bool, true, false, not, ◌&&◌, ◌||◌, ◌==◌, List, [], ◌∷◌, ◌++◌, map, filter, length, get_or, drop, refl, ap, sym, subst, ◌∙◌, append_assoc, append-nil, arith}
-use Rattle.std.specs.Prelude.{nat_eq}
+use Rattle.std.proofs.Common.{◌≡◌, ◌<◌, ℕ, zero, suc, ◌+◌, Bool, true, false, not, ◌&&◌, ◌||◌, ◌==◌, List, [], ◌∷◌, ◌++◌, map, filter, length, get_or, drop, Some, refl, ap, sym, subst, subst₂, ◌∙◌, append_assoc, append-nil, arith}
+use Rattle.std.specs.Prelude.{nat_eq, slice_get}
 use Rattle.std.specs.List.{list_any}
 use Rattle.std.proofs.lemmas.Bool.{eqb-true}
 use Rattle.std.proofs.lemmas.Bool.Decides.{nat_tests}
+use Rattle.std.proofs.lemmas.Option.{none-some, same_Some}
 use Rattle.term_core.specs.Terms.{with_new}
 use Rattle.term_core.proofs.Turns.{turn}
 use Rattle.regtype_grammar.specs.declared.modules.SeenType.{SeenType}
@@ -12,9 +13,10 @@ use Rattle.body_code.specs.declared.scopes.Named.{Named}
 use Rattle.body_code.specs.declared.faults.Indicator.{Indicator}
 use Rattle.unit_scopes.specs.Indicators.{is_among}
 use Rattle.unit_scopes.specs.Sayings.{File, file_of}
-use Rattle.unit_scopes.specs.Numbering.{indicators, defines, numbered}
+use Rattle.unit_scopes.specs.Numbering.{indicators, defines, first_pred, numbered}
 use Rattle.unit_scopes.specs.Imports.{gets, indicator_named, imported, type_indicator, declares, own_types, imported_types}
 use Rattle.unit_scopes.specs.Sources.{index_gets, IsIndex, IsSource, AreSources, preds_given, types_given, type_names_behind}
+use Rattle.unit_scopes.specs.SourceLaws.{SourcesAreOfFiles, IndexesAnswer}
 use Rattle.unit_scopes.specs.declared.indexes.Index.{Index}
 use Rattle.unit_scopes.specs.declared.sayings.Declared.{Declared}
 use Rattle.unit_scopes.specs.declared.sources.Source.{Source}
@@ -23,6 +25,56 @@ use Rattle.unit_scopes.proofs.IndexLaws.{any_added, or_again, or_nothing}
 -- an index answers as its file
 pub gets_same : (f g : File) (x y : Index) → IsIndex f x → IsIndex g y → (at : ℕ) (p : Indicator) → index_gets x at y p ≡ gets f at g p
 gets_same f g x y h k at p = λ i. h.lets_in at p i && (((k.all i && is_among p (k.defined i)) || k.exported p i) && is_among p (k.defined i))
+
+-- an index answers as its file
+pub indexes_answer : IndexesAnswer
+indexes_answer = record {
+  defined = λ f x h p. ap (is_among p) h.defined;
+  exported = λ f x h p. λ i. (h.all i && is_among p (h.defined i)) || h.exported p i;
+  given = gets_same;
+}
+
+-- at each place
+
+as_many : (at first : ℕ) (fs : List File) (ss : List Source) → AreSources at first fs ss → length ss ≡ length fs
+as_many at first [] ss are = ap length are
+as_many at first (f ∷ fs) [] are = absurd are
+as_many at first (f ∷ fs) (s ∷ ss) are = ap (λ n. suc n) (as_many (suc at) (length (indicators f) + first) fs ss are.1)
+
+there : (at first : ℕ) (fs : List File) (ss : List Source) → AreSources at first fs ss → (k : ℕ) (s : Source) → slice_get ss k ≡ Some s
+    → (f : File) × (slice_get fs k ≡ Some f) × IsSource (k + at) (first_pred fs k + first) f s
+there at first [] ss are k s e = absurd (none-some s (sym (ap (λ xs. slice_get xs k) are) ∙ e))
+there at first (f ∷ fs) [] are k s e = absurd are
+there at first (f ∷ fs) (t ∷ ts) are zero s e =
+    let here : IsSource at first f s = subst (IsSource at first f) (same_Some t s e) are.0 in
+    (f, refl, subst₂ (λ n m. IsSource n m f s) (starts at) (starts first) here)
+  where
+    starts : (n : ℕ) → n ≡ 0 + n
+    starts n = omega arith
+there at first (f ∷ fs) (t ∷ ts) are (suc k) s e =
+    let rest = there (suc at) (length (indicators f) + first) fs ts are.1 k s e in
+    let place : k + suc at ≡ suc k + at = omega arith in
+    let number : first_pred fs k + (length (indicators f) + first) ≡ length (indicators f) + first_pred fs k + first = omega arith in
+    (rest.0, rest.1, subst₂ (λ n m. IsSource n m rest.0 s) place number rest.2)
+
+-- the same of all sources, the first of which is at 0
+there_of_all : (fs : List File) (ss : List Source) → AreSources 0 0 fs ss → (k : ℕ) (s : Source) → slice_get ss k ≡ Some s
+    → (f : File) × (slice_get fs k ≡ Some f) × IsSource k (first_pred fs k) f s
+there_of_all fs ss are k s e =
+    let found = there 0 0 fs ss are k s e in
+    (found.0, found.1, subst₂ (λ n m. IsSource n m found.0 s) (nothing k) (nothing (first_pred fs k)) found.2)
+  where
+    nothing : (n : ℕ) → n + 0 ≡ n
+    nothing n = omega arith
+
+pub sources_are : SourcesAreOfFiles
+sources_are = record {
+  count = as_many 0 0;
+  file = there_of_all;
+  both = λ fs ss are k f s file source.
+      let found = there_of_all fs ss are k s source in
+      subst (λ g. IsSource k (first_pred fs k) g s) (same_Some found.0 f (sym found.1 ∙ file)) found.2;
+}
 
 -- predicates that others give
 

@@ -1,4 +1,4 @@
--- Places of clauses and of assertions, by predicate. Contracts of private functions alone.
+-- Places of clauses and of assertions, by predicate.
 -- The headline does not rest on this file.
 use Rattle.std.specs.Prelude.{◌≡◌, ◌<◌, ℕ, suc, ◌==◌, Bool, false, List, [], ◌∷◌, ◌++◌, length, slice_index_or, position, Option, Some, None, option_and_then, if◌then◌else◌}
 use Rattle.ciao_reader.specs.declared.sentences.Sentence.{Sentence}

@@ -1,4 +1,4 @@
--- What the code holds of a unit, found by name. Contracts of private functions alone.
+-- What the code holds of a unit, found by name.
 -- The headline does not rest on this file.
 use Rattle.std.specs.Prelude.{◌≡◌, ℕ, suc, ◌+◌, Bool, true, false, not, ◌&&◌, ◌||◌, ◌==◌, nat_eq, List, [], ◌∷◌, ◌++◌, filter, flat_map, length, slice_get, Option, Some, None, if◌then◌else◌}
 use Rattle.std.specs.Option.{option_map_or}
@@ -13,6 +13,7 @@ use Rattle.regtype_grammar.specs.declared.modules.SeenType.{SeenType}
 use Rattle.unit_scopes.specs.Indicators.{is_among, with_indicator}
 use Rattle.unit_scopes.specs.Sayings.{File}
 use Rattle.unit_scopes.specs.Numbering.{indicators, numbered}
+use Rattle.unit_scopes.specs.Groups.{AreGroups, clause_place, assertion_place}
 use Rattle.unit_scopes.specs.Imports.{exported, exports_all, is_named_in, lets_in, indicator_named, type_indicator, own_types}
 use Rattle.unit_scopes.specs.declared.indexes.Index.{Index}
 use Rattle.unit_scopes.specs.declared.indexes.LetIn.{LetIn}
@@ -98,6 +99,8 @@ pub record IsSource (at first : ℕ) (f : File) (s : Source) : Type 0 where
   pub preds : s.preds ≡ numbered first (indicators f)
   pub types : s.types ≡ own_types at f
   pub declared : s.declared.keys ≡ type_names_behind [] f.parts.types
+  pub clauses : AreGroups (length (indicators f)) (clause_place (indicators f)) f.parts.clauses s.clauses
+  pub assertions : AreGroups (length (indicators f)) (assertion_place (indicators f)) f.parts.assertions s.assertions
 
 -- the predicates that a unit gets from others, the first of which is at this place
 abbrev pub preds_given : Index → ℕ → List Source → List Named

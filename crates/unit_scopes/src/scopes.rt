@@ -1,7 +1,11 @@
 // What is seen in a file, its types by their grammar names.
 ghost use Rattle.std.specs.Prelude.{◌≡◌, ◌+◌, slice_index_or, IfOk};
 ghost use Rattle.regtype_grammar.specs.TypeNames.{first_names, number_of, numbered};
+ghost use Rattle.unit_scopes.specs.Held.{scope_held};
 
+use crate::sources::Source;
+use crate::visible::{preds_seen, types_seen};
+use body_code::{Scope, Visible};
 use prog_data::Seen;
 use regtype_grammar::{SeenType, TypeModule};
 use sqlite_items::Items;
@@ -70,4 +74,23 @@ pub(crate) fn kinds(
         })?;
     }
     Ok(seen)
+}
+
+/// What is seen in a unit among others.
+///
+/// # Errors
+/// Want of memory, or of numbers.
+pub(crate) fn scope_of(
+    alloc: Global,
+    firsts: &[u64],
+    sources: &[Source],
+    source: &Source,
+) -> Result<Scope, NoMemory>
+    ensures { IfOk result (λ scope. scope ≡ scope_held firsts.now sources.now source.now) }
+{
+    let preds = preds_seen(alloc, source, sources)?;
+    let visible = types_seen(alloc, source, sources)?;
+    let types = kinds(alloc, firsts, visible.as_slice())?;
+    let scope = Scope::new(alloc, Visible { preds, types })?;
+    Ok(scope)
 }

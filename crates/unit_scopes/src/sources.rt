@@ -6,6 +6,7 @@ ghost use Rattle.unit_scopes.specs.Sources.{type_names_behind, IsSource, AreSour
 ghost use Rattle.unit_scopes.specs.Sayings.{file_of};
 ghost use Rattle.unit_scopes.specs.Numbering.{indicators};
 
+use crate::groups::{assertion_groups, clause_groups};
 use crate::indexes::{Index, index_of};
 use crate::indicators::numbered;
 use crate::sayings::{Declared, Parts, parts_of_unit};
@@ -30,6 +31,9 @@ pub struct Source {
     pub types: Items<SeenType>,
     /// Their names.
     pub declared: IndexSet<u64>,
+    /// The places of the clauses of each predicate, and of the assertions about it.
+    pub clauses: Items<Items<u64>>,
+    pub assertions: Items<Items<u64>>,
 }
 
 /// Types and their names.
@@ -86,6 +90,8 @@ pub(crate) fn source_of(
     let index = index_of(alloc, unit, &parts)?;
     let (preds, next) = numbered(alloc, first, index.defined.as_slice())?;
     let Types { types, names } = own_types(alloc, at, parts.types.as_slice())?;
+    let clauses = clause_groups(alloc, &index.defined, parts.clauses.as_slice())?;
+    let assertions = assertion_groups(alloc, &index.defined, parts.assertions.as_slice())?;
     let source = Source {
         file: unit.file,
         module: unit.name,
@@ -94,6 +100,8 @@ pub(crate) fn source_of(
         preds,
         types,
         declared: names,
+        clauses: Items::from_vec(clauses),
+        assertions: Items::from_vec(assertions),
     };
     Ok((source, next))
 }
