@@ -1,4 +1,5 @@
 mod FaultLaws
+mod HeldLaws
 mod LeastLaws
 mod LinkedLaws
 mod LowerLaws
@@ -10,3 +11,4 @@ mod ProgramLists
 mod ProgramNames
 mod ProgramNormals
 mod ProgramRange
+mod Untroubled
