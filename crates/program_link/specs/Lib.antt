@@ -4,5 +4,3 @@ pub mod Faults
 pub mod Drafts
 pub mod Programs
 pub mod Linked
-pub mod Laws
-pub mod Offers

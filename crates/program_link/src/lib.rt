@@ -1,11 +1,10 @@
-//! Units as one program, or the first rule that they break.
+//! Stand-in: units as one program.
 #![tactic(auto)]
 
 mod drafts;
-mod fault_order;
 mod faults;
-mod laws;
+mod linking;
 mod outcomes;
 
-pub use laws::least_fault_law;
+pub use linking::link;
 pub use outcomes::LinkFault;

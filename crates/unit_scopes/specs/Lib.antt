@@ -3,5 +3,3 @@ pub mod Sayings
 pub mod Numbering
 pub mod Imports
 pub mod Settings
-pub mod Sources
-pub mod Groups

@@ -1,16 +1,8 @@
-//! What units say, and what is seen in each of them.
+//! Stand-in: what units say, types alone.
 #![tactic(auto)]
 
-mod groups;
-mod indexes;
-mod indicators;
 mod sayings;
-mod scopes;
 mod settings;
-mod sources;
-mod visible;
 
-pub use indexes::{Index, Wanted, exported};
 pub use sayings::{Broken, Declared, Parts};
 pub use settings::Setting;
-pub use sources::{Source, sources_of};

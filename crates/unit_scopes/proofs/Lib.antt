@@ -1,5 +1,0 @@
-mod GroupLaws
-mod IndexLaws
-mod NumberLaws
-mod ReadLaws
-mod SourceLaws
