@@ -11,7 +11,8 @@ use Rattle.ciao_modules.specs.declared.units.Unit.{Unit}
 use Rattle.ciao_modules.specs.declared.units.LoadFault.{LoadFault}
 use Rattle.ciao_top.specs.WordsAccepted.{RunWords, AcceptedWords}
 use Rattle.ciao_top.specs.declared.stops.Reason.{Reason}
-use Rattle.ciao_top.specs.FileSets.{MeetsEntry, IsReached}
+use Rattle.ciao_top.specs.Queries.{MeetsEntry}
+use Rattle.ciao_top.specs.FileSets.{HasQuery, IsReached}
 use Rattle.ciao_top.specs.Refused.{Refuses}
 use Rattle.ciao_top.specs.Limits.{RunAnswers}
 use Rattle.ciao_top.specs.Lines.{reason_text, reason_status, read_fault}
@@ -19,7 +20,7 @@ use Rattle.ciao_top.specs.Lines.{reason_text, reason_status, read_fault}
 -- Defined: the text and the status for these files and words. It knows of no call and no fault of a device.
 pub data Defined (held : Held) (words : List Word) (text : Word) (status : ℕ) : Type 0 where
   Refused : (why : Reason) → Refuses held words why → text ≡ reason_text why → status ≡ reason_status why → Defined held words text status
-  Runs : (command : RunWords) → AcceptedWords words ≡ Some command → (program : Program) (query : Term) → MeetsEntry held command program query
+  Runs : (command : RunWords) → AcceptedWords words ≡ Some command → (program : Program) (query : Term) → HasQuery held command program query → MeetsEntry program query
       → RunAnswers program query command.steps command.answers text status → Defined held words text status
 
 -- what the files and the sink tell of a call

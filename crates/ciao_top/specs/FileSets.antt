@@ -1,17 +1,16 @@
 -- What a command's files and its query are.
-use Rattle.std.specs.Prelude.{◌≡◌, ℕ, true, List, Some}
+use Rattle.std.specs.Prelude.{◌≡◌, ℕ, List}
 use Rattle.byte_io.specs.Outside.{Held}
 use Rattle.term_core.specs.Names.{fixed_names, name_text}
 use Rattle.term_core.specs.declared.operators.Operators.{Operators}
 use Rattle.term_core.specs.declared.terms.Term.{Term}
 use Rattle.prog_data.specs.declared.programs.Program.{Program}
-use Rattle.prog_data.specs.Goals.{called_by}
 use Rattle.prog_data.specs.Programs.{with_names}
 use Rattle.ciao_modules.specs.FileNames.{Word}
 use Rattle.ciao_modules.specs.Loaded.{Loaded, IsReachedFile}
 use Rattle.ciao_modules.specs.declared.units.Unit.{Unit}
 use Rattle.program_link.specs.Linked.{Linked, linked}
-use Rattle.ciao_top.specs.Queries.{main_operators, IsQuery, query_meets_entry}
+use Rattle.ciao_top.specs.Queries.{main_operators, IsQuery}
 use Rattle.ciao_top.specs.WordsAccepted.{RunWords}
 
 module _ (held : Held) (command : RunWords) where
@@ -31,13 +30,6 @@ module _ (held : Held) (command : RunWords) where
     pub names : List Word
     pub read : IsQuery ops before.names command.query names query
     pub program_is : program ≡ with_names names before
-
-  -- and it meets an entry: it calls an exported predicate of the main module, and the precondition of an entry of that holds of its arguments
-  pub record MeetsEntry (program : Program) (query : Term) : Type 0 where
-    pub has : HasQuery program query
-    pub pred : ℕ
-    pub calls : called_by program query ≡ Some pred
-    pub meets : query_meets_entry program pred query ≡ true
 
   -- a file of this name, as it is printed, is one of those that are read
   pub record IsReached (name : Word) : Type 0 where

@@ -1,12 +1,14 @@
 -- What the inner functions of the tool answer.
 -- The headline does not rest on this file.
-use Rattle.std.specs.Prelude.{◌≡◌, ◌≤◌, ℕ, zero, suc, ⊤, Bool, true, false, List, [], ◌∷◌, ◌++◌, map, length, take, Option, Some, None, Result, IfSome, bytes_eq}
+use Rattle.std.specs.Prelude.{◌≡◌, ◌⊎◌, ◌≤◌, ℕ, ◌-◌, ◌==◌, ⊤, Bool, true, false, List, [], ◌∷◌, ◌++◌, map, length, take, Option, Some, None, Result, IfSome, bytes_eq}
 use Rattle.std.specs.List.{IsDistinct}
 use Rattle.byte_io.specs.Outside.{Held, FileRead, StaysSteady}
 use Rattle.term_core.specs.Names.{fixed_names, name_text}
 use Rattle.term_core.specs.Ranges.{has_names}
 use Rattle.term_core.specs.declared.terms.Term.{Term}
 use Rattle.term_core.specs.declared.operators.Operators.{Operators}
+use Rattle.ciao_reader.specs.declared.sentences.ReadFault.{ReadFault}
+use Rattle.ciao_reader.specs.declared.sentences.ReadFault.TheVariants as read
 use Rattle.prog_data.specs.declared.programs.Program.{Program}
 use Rattle.prog_data.specs.declared.events.Event.{Event}
 use Rattle.prog_data.specs.declared.events.Event.TheVariants.{Out, Answer, End, Broken}
@@ -26,12 +28,15 @@ use Rattle.ciao_modules.specs.declared.units.LoadFault.TheVariants as load
 use Rattle.program_link.specs.Linked as link
 use Rattle.ciao_top.specs.WordsAccepted.{RunWords}
 use Rattle.ciao_top.specs.declared.words.RunCommand.{RunCommand}
+use Rattle.ciao_top.specs.declared.runs.Behind.{Behind}
+use Rattle.ciao_top.specs.declared.runs.Behind.TheVariants as behind
+use Rattle.ciao_top.specs.declared.stops.Reason.{Reason}
 use Rattle.ciao_top.specs.declared.stops.Reason.TheVariants as reason
 use Rattle.ciao_top.specs.declared.stops.Stop.{Stop}
 use Rattle.ciao_top.specs.declared.stops.Stop.TheVariants as stop
 use Rattle.ciao_top.specs.FileSets.{IsReached}
-use Rattle.ciao_top.specs.Limits.{answers_behind, LimitedText, limited_status}
-use Rattle.ciao_top.specs.Queries.{IsQuery, query_meets_entry}
+use Rattle.ciao_top.specs.Limits.{LimitedText, limited_status}
+use Rattle.ciao_top.specs.Queries.{main_operators, IsQuery, query_meets_entry}
 use Rattle.ciao_top.specs.Refused.{CommandRefused}
 use Rattle.ciao_top.specs.Answers.{IsPrefix, Output, with_piece}
 
@@ -46,12 +51,23 @@ pub record DeviceGoesOn (was is : Bool) (before now : ℕ) : Type 0 where
 
 -- why there is no program or query
 
--- why files are not loaded, over these names: the line of the refusal, or the name of the file that could not be read; memory may be refused at any
+-- the line of a refusal, over these names; memory may be refused at any
+abbrev pub RefusalStops : List Word → Refusal → Stop → Type 0
+RefusalStops names refusal (stop.Refused (reason.OfFiles line)) = line ≡ refusal_text names refusal
+RefusalStops names refusal stop.NoMemory = ⊤
+RefusalStops names refusal other = ⊥
+
+-- the name of a file that could not be read
+abbrev pub FailedStops : List Word → ℕ → Stop → Type 0
+FailedStops names file (stop.Unreadable name) = name ≡ name_text names file
+FailedStops names file stop.NoMemory = ⊤
+FailedStops names file other = ⊥
+
+-- why files are not loaded
 abbrev pub LoadStops : List Word → LoadFault → Stop → Type 0
-LoadStops names (load.Refused refusal) (stop.Refused (reason.OfFiles line)) = line ≡ refusal_text names refusal
-LoadStops names (load.Failed file) (stop.Unreadable name) = name ≡ name_text names file
-LoadStops names fault stop.NoMemory = ⊤
-LoadStops names fault other = ⊥
+LoadStops names (load.Refused refusal) s = RefusalStops names refusal s
+LoadStops names (load.Failed file) s = FailedStops names file s
+LoadStops names load.NoMemory s = s ≡ stop.NoMemory
 
 -- why units are not linked
 abbrev pub LinkStops : List Word → List Unit → Stop → Type 0
@@ -65,24 +81,37 @@ pub record HasQueryOf (before : Program) (ops : Operators) (text : Word) (progra
   pub read : IsQuery ops before.names text names query
   pub program_is : program ≡ programs.with_names names before
 
--- and the query meets an entry
-pub record MeetsEntryOf (before : Program) (ops : Operators) (text : Word) (program : Program) (query : Term) : Type 0 where
-  pub has : HasQueryOf before ops text program query
-  pub pred : ℕ
-  pub calls : called_by program query ≡ Some pred
-  pub meets : query_meets_entry program pred query ≡ true
+-- whether memory was refused
+abbrev pub wants_memory : ReadFault → Bool
+wants_memory read.NoMemory = true
+wants_memory other = false
 
--- it calls no exported predicate, or it meets no entry
-abbrev pub CallFaults : Program → Term → Stop → Type 0
-CallFaults program query (stop.Refused reason.QueryNotExported) = called_by program query ≡ None
-CallFaults program query (stop.Refused reason.QueryNoEntry) = (pred : ℕ) × (called_by program query ≡ Some pred) × (query_meets_entry program pred query ≡ false)
+-- a query is not to be run: it calls no exported predicate, or it meets no entry
+abbrev pub CallFaults : Program → Term → Reason → Type 0
+CallFaults program query reason.QueryNotExported = called_by program query ≡ None
+CallFaults program query reason.QueryNoEntry = (pred : ℕ) × (called_by program query ≡ Some pred) × (query_meets_entry program pred query ≡ false)
 CallFaults program query other = ⊥
 
 -- a text is no query, or one that is not to be run
-abbrev pub QueryFaults : Program → Operators → Word → Stop → Type 0
-QueryFaults before ops text (stop.Refused reason.QueryUnread) = (names : List Word) (query : Term) → IsQuery ops before.names text names query → ⊥
-QueryFaults before ops text stop.NoMemory = ⊤
-QueryFaults before ops text fault = (program : Program) × (query : Term) × HasQueryOf before ops text program query × CallFaults program query fault
+abbrev pub QueryFaults : Program → Operators → Word → Reason → Type 0
+QueryFaults before ops text reason.QueryUnread = (names : List Word) (query : Term) → IsQuery ops before.names text names query → ⊥
+QueryFaults before ops text why = (program : Program) × (query : Term) × HasQueryOf before ops text program query × CallFaults program query why
+
+-- or memory was refused
+abbrev pub QueryStops : Program → Operators → Word → Stop → Type 0
+QueryStops before ops text (stop.Refused why) = QueryFaults before ops text why
+QueryStops before ops text (stop.Unreadable name) = ⊥
+QueryStops before ops text stop.NoMemory = ⊤
+
+-- units over these names have a program, of which a text is this query
+pub record HasQueryIn (names : List Word) (units : List Unit) (text : Word) (program : Program) (query : Term) : Type 0 where
+  pub before : Program
+  pub linked_is : link.linked names units ≡ link.Linked before
+  pub of : HasQueryOf before (main_operators units) text program query
+
+-- they are not linked, or the text is no query that is to be run
+abbrev pub UnitStops : List Word → List Unit → Word → Stop → Type 0
+UnitStops names units text s = LinkStops names units s ⊎ ((before : Program) × (link.linked names units ≡ link.Linked before) × QueryStops before (main_operators units) text s)
 
 -- why a command is not run: for all files that agree with the reads it is refused so, or a read failed
 abbrev pub Stops : RunWords → List FileRead → Type 0 → Stop → Type 0
@@ -144,11 +173,23 @@ event_status (Answer query) = None
 event_status (End e) = Some (ending_status e)
 event_status (Broken c) = None
 
--- how many answers may still be told behind an event
+-- how many answers may still be told behind an event, where they are limited
 abbrev pub limit_behind : Event → Option ℕ → Option ℕ
-limit_behind event None = None
-limit_behind event (Some zero) = Some zero
-limit_behind event (Some (suc n)) = Some (answers_behind event n)
+limit_behind (Answer query) (Some count) = Some (count - 1)
+limit_behind event limit = limit
+
+-- whether no answer may be told any more
+abbrev pub is_reached : Option ℕ → Bool
+is_reached None = false
+is_reached (Some count) = count == 0
+
+-- what comes behind an event that was written
+abbrev pub behind_status : Event → Option ℕ → Option ℕ → Behind
+behind_status event limit None = behind.GoesOn (limit_behind event limit)
+behind_status event limit (Some status) = behind.Ends status
+
+abbrev pub behind_event : Event → Option ℕ → Behind
+behind_event event limit = behind_status event limit (event_status event)
 
 -- what a run tells from a phase on, with so many answers that may be told: the text of the events that are left, and the status
 pub record RunTells (program : Program) (bound : ℕ) (limit : Option ℕ) (left : Option Left) (text : Word) (status : ℕ) : Type 0 where
@@ -170,3 +211,13 @@ pub record GoesOn (program : Program) (bound : ℕ) (old new : Option Left) : Ty
   pub is : new ≡ Some after
   pub made : ℕ
   pub tells : Leads (every_condition program) program bound before (event ∷ []) made after
+
+-- what was written behind an event: the run goes on with so many answers that may be told, or it ends with this status
+abbrev pub IsBehind : Program → ℕ → Option ℕ → (old new : Option Left) → Type 0 → (before after : Output) → Behind → Type 0
+IsBehind program bound limit old new writing before after (behind.GoesOn more) = HasWritten (RunTells program bound limit old) (RunTells program bound more new) before after
+IsBehind program bound limit old new writing before after (behind.Ends status) = Comes (RunTells program bound limit old) writing before after status
+
+-- where it goes on it told an event
+abbrev pub GoesBehind : Program → ℕ → (old new : Option Left) → Behind → Type 0
+GoesBehind program bound old new (behind.GoesOn more) = GoesOn program bound old new
+GoesBehind program bound old new (behind.Ends status) = ⊤
