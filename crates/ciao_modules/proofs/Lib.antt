@@ -11,3 +11,4 @@ mod Fronts
 mod Rounds
 mod OneOutcome
 mod SomeOutcome
+mod RefusalNames

@@ -2,6 +2,7 @@
 -- The headline does not rest on this file.
 use Rattle.std.specs.Prelude.{◌≡◌, List}
 use Rattle.byte_io.specs.Outside.{Held}
+use Rattle.term_core.specs.Names.{name_text}
 use Rattle.prog_data.specs.declared.refusals.Refusal.{Refusal}
 use Rattle.ciao_modules.specs.FileNames.{Word}
 use Rattle.ciao_modules.specs.Loaded.{Loaded, LoadRefused}
@@ -18,6 +19,11 @@ NoLoadRefused = (held : Held) (main : Word) (before after later : List Word) (un
 -- the first refusal is the same
 abbrev pub OneLoadRefusal : Type 0
 OneLoadRefusal = (held : Held) (main : Word) (before after later : List Word) (refusal other : Refusal) → LoadRefused held main before after refusal → LoadRefused held main before later other → refusal ≡ other
+
+-- its file has one text, by whatever names at last
+abbrev pub OneRefusalName : Type 0
+OneRefusalName = (held : Held) (main : Word) (before after later : List Word) (refusal other : Refusal) → LoadRefused held main before after refusal → LoadRefused held main before later other
+    → name_text after refusal.place.file ≡ name_text later other.place.file
 
 -- there are units or a first refusal: it is not so that there is neither
 abbrev pub SomeLoad : Type 0
