@@ -3,7 +3,7 @@ use Rattle.std.proofs.Common.{◌≡◌, ◌⊎◌, inl, inr, ℕ, Bool, ◌+◌
 use Rattle.std.proofs.lemmas.List.{append_assoc, take_min, take-append-le}
 use Rattle.std.proofs.Math.Seq.{take-append-add, take-append_seam}
 use Rattle.byte_io.specs.Outside.{Rose, grown, TookFront}
-use Rattle.ciao_top.specs.Words.{Word}
+use Rattle.ciao_modules.specs.FileNames.{Word}
 use Rattle.ciao_top.specs.Answers.{IsPrefix, Output, output_of, with_piece}
 use Rattle.ciao_top.specs.InnerAnswers.{DeviceGoesOn, GrewByFront, Only, HasBegun, Comes, Whole, SinkFailed, MemoryWanted, HasWritten}
 

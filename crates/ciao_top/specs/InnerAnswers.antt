@@ -173,10 +173,15 @@ event_status (Answer query) = None
 event_status (End e) = Some (ending_status e)
 event_status (Broken c) = None
 
--- how many answers may still be told behind an event, where they are limited
+-- how many answers may still be told behind an event, of so many
+abbrev pub count_behind : Event → ℕ → ℕ
+count_behind (Answer query) count = count - 1
+count_behind other count = count
+
+-- the same, where they are limited
 abbrev pub limit_behind : Event → Option ℕ → Option ℕ
-limit_behind (Answer query) (Some count) = Some (count - 1)
-limit_behind event limit = limit
+limit_behind event None = None
+limit_behind event (Some count) = Some (count_behind event count)
 
 -- whether no answer may be told any more
 abbrev pub is_reached : Option ℕ → Bool

@@ -8,6 +8,7 @@ pub mod FileSets
 pub mod Refused
 pub mod Lines
 pub mod Answers
+pub mod Relied
 pub mod InnerAnswers
 pub mod WordsFound
 pub mod WordsSeen

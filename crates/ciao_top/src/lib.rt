@@ -3,6 +3,7 @@
 
 mod prepare;
 mod queries;
+mod relied;
 mod runs;
 mod stops;
 mod tool;

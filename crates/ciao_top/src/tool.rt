@@ -7,12 +7,12 @@ ghost use Rattle.ciao_top.specs.Answers.{Answered, Complete, OneAnswer, SomeAnsw
 ghost use Rattle.ciao_top.specs.InnerAnswers.{DeviceGoesOn, Comes, Only};
 
 use crate::prepare::prepare;
+use crate::relied::relied_law;
 use crate::runs::{write_text, write_whole};
 use crate::stops::{Reason, Stop, stop_status, stop_text};
 use crate::words::read_words;
 use byte_io::{Files, Sink};
-use ciao_modules::{one_load_law, refusal_name_law, some_load_law};
-use ciao_reader::one_goal_law;
+use ciao_modules::some_load_law;
 use machine_model::{ends_law, one_run_law};
 use std::alloc::Global;
 use std::thread::Threads;
@@ -57,6 +57,7 @@ pub fn run_tool<R: Threads + Sync, F: Files, S: Sink>(
     ensures steady { StaysSteady (F.steady files.old) (F.steady files.new) (F.faults files.old) (F.faults files.new)
         × StaysSteady (S.steady out.old) (S.steady out.new) (S.faults out.old) (S.faults out.new) }
 {
+    relied_law(); // for the proof
     match read_words(words) {
         None => write_stop(alloc, &Stop::Refused(Reason::NoCommand), out),
         Some(command) => match prepare(alloc, &command, files) {
@@ -70,10 +71,8 @@ pub fn run_tool<R: Threads + Sync, F: Files, S: Sink>(
 pub fn one_answer_law()
     ensures { OneAnswer }
 {
+    relied_law();
     one_run_law();
-    one_load_law();
-    refusal_name_law();
-    one_goal_law();
 }
 
 /// For files and words it cannot be that there is no text and no status.

@@ -1,0 +1,14 @@
+// The laws of the crates below on which uniqueness rests, together.
+ghost use Rattle.ciao_top.specs.Relied.{Relied};
+
+use ciao_modules::{one_load_law, refusal_name_law};
+use ciao_reader::one_goal_law;
+
+/// A load has one outcome, and a text is one goal.
+pub(crate) fn relied_law()
+    ensures { Relied }
+{
+    one_load_law();
+    refusal_name_law();
+    one_goal_law();
+}
