@@ -14,7 +14,7 @@ use Rattle.sld_engine.specs.Runs.{left_of, program_of, bound_of, reading_of, Sta
 use Rattle.machine_model.proofs.Continuing.{all_left}
 use Rattle.run_report.specs.RunText.{event_text, ending_text, ending_status}
 use Rattle.ciao_modules.specs.FileNames.{Word}
-use Rattle.ciao_top.specs.declared.runs.Behind.{Behind}
+use Rattle.ciao_top.specs.declared.runs.Following.{Following}
 use Rattle.ciao_top.specs.Limits.{limit_line, LimitedText, limited_status, RunAnswers}
 use Rattle.ciao_top.specs.Answers.{IsPrefix, Output, with_piece}
 use Rattle.ciao_top.specs.InnerAnswers.{Only, GrewByFront, HasBegun, Comes, Whole, HasWritten, limit_behind, is_reached, behind_event, RunTells, GoesOn, IsBehind, GoesBehind}

@@ -5,7 +5,7 @@ use Rattle.ciao_modules.specs.FileNames.{Word, is_main_file}
 use Rattle.ciao_top.specs.WordsTable.{OptionRow, steps_row, answers_row, run_row}
 use Rattle.ciao_top.specs.WordsCut.{GivenOption, WordParts, WordUse, Separator, Name, Given, Positional, Dashed, use_of, no_parts, with_positional, with_option, cut_by, cut_words}
 use Rattle.ciao_top.specs.WordsAccepted.{values_of, number_for, are_of_kinds, accepted_parts, RunWords, run_of, run_by}
-use Rattle.ciao_top.specs.WordsFound.{more_words, FoundWords, nothing_found, few_words, few_values, found_of, all_and, one_more, value_and, found_with, find_by, find_words, number_found, run_numbered, run_found}
+use Rattle.ciao_top.specs.WordsFound.{FewValues, more_words, FoundWords, nothing_found, few_words, few_values, found_of, all_and, one_more, value_and, found_with, find_by, find_words, number_found, run_numbered, run_found}
 
 -- words behind others
 

@@ -28,8 +28,8 @@ use Rattle.ciao_modules.specs.declared.units.LoadFault.TheVariants as load
 use Rattle.program_link.specs.Linked as link
 use Rattle.ciao_top.specs.WordsAccepted.{RunWords}
 use Rattle.ciao_top.specs.declared.words.RunCommand.{RunCommand}
-use Rattle.ciao_top.specs.declared.runs.Behind.{Behind}
-use Rattle.ciao_top.specs.declared.runs.Behind.TheVariants as behind
+use Rattle.ciao_top.specs.declared.runs.Following.{Following}
+use Rattle.ciao_top.specs.declared.runs.Following.TheVariants as following
 use Rattle.ciao_top.specs.declared.stops.Reason.{Reason}
 use Rattle.ciao_top.specs.declared.stops.Reason.TheVariants as reason
 use Rattle.ciao_top.specs.declared.stops.Stop.{Stop}
@@ -189,11 +189,11 @@ is_reached None = false
 is_reached (Some count) = count == 0
 
 -- what comes behind an event that was written
-abbrev pub behind_status : Event → Option ℕ → Option ℕ → Behind
-behind_status event limit None = behind.GoesOn (limit_behind event limit)
-behind_status event limit (Some status) = behind.Ends status
+abbrev pub behind_status : Event → Option ℕ → Option ℕ → Following
+behind_status event limit None = following.GoesOn (limit_behind event limit)
+behind_status event limit (Some status) = following.Ends status
 
-abbrev pub behind_event : Event → Option ℕ → Behind
+abbrev pub behind_event : Event → Option ℕ → Following
 behind_event event limit = behind_status event limit (event_status event)
 
 -- what a run tells from a phase on, with so many answers that may be told: the text of the events that are left, and the status
@@ -218,11 +218,11 @@ pub record GoesOn (program : Program) (bound : ℕ) (old new : Option Left) : Ty
   pub tells : Leads (every_condition program) program bound before (event ∷ []) made after
 
 -- what was written behind an event: the run goes on with so many answers that may be told, or it ends with this status
-abbrev pub IsBehind : Program → ℕ → Option ℕ → (old new : Option Left) → Type 0 → (before after : Output) → Behind → Type 0
-IsBehind program bound limit old new writing before after (behind.GoesOn more) = HasWritten (RunTells program bound limit old) (RunTells program bound more new) before after
-IsBehind program bound limit old new writing before after (behind.Ends status) = Comes (RunTells program bound limit old) writing before after status
+abbrev pub IsBehind : Program → ℕ → Option ℕ → (old new : Option Left) → Type 0 → (before after : Output) → Following → Type 0
+IsBehind program bound limit old new writing before after (following.GoesOn more) = HasWritten (RunTells program bound limit old) (RunTells program bound more new) before after
+IsBehind program bound limit old new writing before after (following.Ends status) = Comes (RunTells program bound limit old) writing before after status
 
 -- where it goes on it told an event
-abbrev pub GoesBehind : Program → ℕ → (old new : Option Left) → Behind → Type 0
-GoesBehind program bound old new (behind.GoesOn more) = GoesOn program bound old new
-GoesBehind program bound old new (behind.Ends status) = ⊤
+abbrev pub GoesBehind : Program → ℕ → (old new : Option Left) → Following → Type 0
+GoesBehind program bound old new (following.GoesOn more) = GoesOn program bound old new
+GoesBehind program bound old new (following.Ends status) = ⊤

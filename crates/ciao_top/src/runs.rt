@@ -83,7 +83,7 @@ fn is_reached(limit: Option<u64>) -> bool
 
 // What comes behind an event.
 #[derive(Clone, Copy, Drop)]
-enum Behind {
+enum Following {
     // The run goes on, with so many answers that may still be told, where they are limited.
     GoesOn(Option<u64>),
     // It ends with this status.
@@ -91,12 +91,12 @@ enum Behind {
 }
 
 // What comes behind an event that was written.
-fn behind(event: &Event, limit: Option<u64>) -> Behind
+fn behind(event: &Event, limit: Option<u64>) -> Following
     ensures { result ≡ behind_event event.now limit }
 {
     match event_status(event) {
-        None => Behind::GoesOn(limit_behind(event, limit)),
-        Some(status) => Behind::Ends(status),
+        None => Following::GoesOn(limit_behind(event, limit)),
+        Some(status) => Following::Ends(status),
     }
 }
 
@@ -107,7 +107,7 @@ fn write_next<S: Sink>(
     run: &mut Run<'_>,
     limit: Option<u64>,
     out: &mut S,
-) -> Behind
+) -> Following
     requires program { program_of run.old ≡ program.now }
     requires reading { reading_of run.old ≡ Reading.All }
     requires limit { is_reached limit ≡ false }
@@ -120,9 +120,9 @@ fn write_next<S: Sink>(
     ensures bound { bound_of run.new ≡ bound_of run.old }
 {
     match run.next() {
-        Err(_) => Behind::Ends(9),
+        Err(_) => Following::Ends(9),
         Ok(event) => match write_event(alloc, program, &event, out) {
-            Err(status) => Behind::Ends(status),
+            Err(status) => Following::Ends(status),
             Ok(()) => behind(&event, limit),
         },
     }
@@ -160,8 +160,8 @@ fn write_run<S: Sink>(
             return write_limit(out);
         }
         match write_next(alloc, program, run, more, out) {
-            Behind::GoesOn(next) => more = next,
-            Behind::Ends(status) => return status,
+            Following::GoesOn(next) => more = next,
+            Following::Ends(status) => return status,
         }
     }
 }
