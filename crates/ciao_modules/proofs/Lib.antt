@@ -12,3 +12,4 @@ mod Rounds
 mod OneOutcome
 mod SomeOutcome
 mod RefusalNames
+mod OperatorLaws

@@ -1,5 +1,5 @@
 // The laws of loads.
-ghost use Rattle.ciao_modules.specs.LoadLaws.{OneLoad, NoLoadRefused, OneLoadRefusal, OneRefusalName, SomeLoad};
+ghost use Rattle.ciao_modules.specs.LoadLaws.{OneLoad, NoLoadRefused, OneLoadRefusal, OneRefusalName, OperatorsAreMade, SomeLoad};
 
 use ciao_reader::{every_text_law, one_outcome_law};
 use ciao_tokens::named_tokens_law;
@@ -20,6 +20,11 @@ pub fn refusal_name_law()
     one_outcome_law();
     named_tokens_law();
 }
+
+/// The operators of each unit can be made, so by them a text has one reading.
+pub fn unit_operators_law()
+    ensures { OperatorsAreMade }
+{}
 
 /// For given files a main file has units or a first refusal: it is not so that there is neither.
 pub fn some_load_law()

@@ -1,5 +1,7 @@
 -- The text of a run with an answer limit, one event at a time.
-use Rattle.std.proofs.Common.{◌≡◌, ℕ, zero, suc, Bool, true, false, List, [], ◌∷◌, ◌++◌, refl, ◌∙◌, sym, ap, Option, Some, None, option_map, flat_map, true≢false}
+use Rattle.std.proofs.Common.{◌≡◌, ℕ, zero, suc, Bool, true, false, List, [], ◌∷◌, ◌++◌, refl, ◌∙◌, sym, ap, Option, Some, None, option_map, flat_map, true≢false, arith}
+use Rattle.std.specs.Prelude.{◌==◌}
+use Rattle.std.proofs.lemmas.Bool.Decides.{nat_tests}
 use Rattle.std.proofs.lemmas.List.{append_assoc}
 use Rattle.prog_data.specs.declared.programs.Program.{Program}
 use Rattle.prog_data.specs.declared.events.Event.{Event}
@@ -9,10 +11,14 @@ use Rattle.run_report.specs.RunText.{event_text, ending_text, ending_status}
 use Rattle.ciao_top.specs.Limits.{answers_behind, up_to_answer, limit_line, told_text, told_status, LimitedText, limited_status}
 use Rattle.ciao_top.specs.InnerAnswers.{count_behind, limit_behind, is_reached}
 
+-- a number above 0
+not_zero : (n : ℕ) → (suc n == 0) ≡ false
+not_zero n = grind (arith, nat_tests)
+
 -- one answer less, or as many
 counted : (event : Event) (n : ℕ) → answers_behind event n ≡ count_behind event (suc n)
 counted (Out text) n = refl
-counted (Answer query) n = refl
+counted (Answer query) n = omega arith
 counted (End e) n = refl
 counted (Broken c) n = refl
 
@@ -57,9 +63,9 @@ status_end (Some (suc n)) e more = refl
 pub text_reached : (program : Program) (limit : Option ℕ) (events : List Event) (e : Ending) → is_reached limit ≡ true → LimitedText program limit events e ≡ limit_line
 text_reached program None events e over = absurd (true≢false (sym over))
 text_reached program (Some zero) events e over = refl
-text_reached program (Some (suc n)) events e over = absurd (true≢false (sym over))
+text_reached program (Some (suc n)) events e over = absurd (true≢false (sym over ∙ not_zero n))
 
 pub status_reached : (limit : Option ℕ) (events : List Event) (e : Ending) → is_reached limit ≡ true → limited_status limit events e ≡ 0
 status_reached None events e over = absurd (true≢false (sym over))
 status_reached (Some zero) events e over = refl
-status_reached (Some (suc n)) events e over = absurd (true≢false (sym over))
+status_reached (Some (suc n)) events e over = absurd (true≢false (sym over ∙ not_zero n))

@@ -88,7 +88,7 @@ module _ (relied : Relied) where
 
     -- the operators of the main file can be made
     ops_made : (p : Program) (ops : Operators) → HasProgram held command p ops → IsMade ops
-    ops_made p ops a = subst IsMade (sym a.ops_are) (operators_made held command.file a.names a.units a.loaded)
+    ops_made p ops a = subst IsMade (sym a.ops_are) (operators_made a.units (relied.operators held command.file fixed_names a.names a.units a.loaded))
 
     pub one_prepared : (p q : Program) (t u : Term) → HasQuery held command p t → HasQuery held command q u → (p ≡ q) × (t ≡ u)
     one_prepared p q t u a b =

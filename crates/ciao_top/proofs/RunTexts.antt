@@ -86,13 +86,12 @@ module _ (program : Program) (bound : ℕ) where
           );
     }
 
-    -- the run goes on, or ends, after an event that was written
-    pub comes_next : (o n : Option Left) (event : Event) (writing : Type 0) (old new : Output) → IsNextAt o event n
+    next_written : (o n : Option Left) (event : Event) (writing : Type 0) (old new : Output) → IsNextAt o event n
         → new ≡ with_piece old (event_text program event) → IsBehind program bound limit o n writing old new (behind_event event limit)
-    comes_next o n (Out text) writing old new next grew = tells_written o n next.before next.after (Out text) next.made old new next.was next.is next.next grew
-    comes_next o n (Answer query) writing old new next grew = tells_written o n next.before next.after (Answer query) next.made old new next.was next.is next.next grew
-    comes_next o n (Broken c) writing old new next grew = tells_written o n next.before next.after (Broken c) next.made old new next.was next.is next.next grew
-    comes_next o n (End e) writing old new next grew = Whole (ending_text program e) (record {
+    next_written o n (Out text) writing old new next grew = tells_written o n next.before next.after (Out text) next.made old new next.was next.is next.next grew
+    next_written o n (Answer query) writing old new next grew = tells_written o n next.before next.after (Answer query) next.made old new next.was next.is next.next grew
+    next_written o n (Broken c) writing old new next grew = tells_written o n next.before next.after (Broken c) next.made old new next.was next.is next.next grew
+    next_written o n (End e) writing old new next grew = Whole (ending_text program e) (record {
       now = next.before;
       is_now = next.was;
       events = [];
@@ -102,6 +101,11 @@ module _ (program : Program) (bound : ℕ) where
       text_is = sym (text_end program limit e more);
       status_is = sym (status_end limit e more);
     }) grew
+
+    -- the run goes on, or ends, after an event that was written
+    pub comes_next : (o n : Option Left) (event : Event) (f : Following) (writing : Type 0) (old new : Output) → IsNextAt o event n → f ≡ behind_event event limit
+        → new ≡ with_piece old (event_text program event) → IsBehind program bound limit o n writing old new f
+    comes_next o n event f writing old new next is grew = subst (IsBehind program bound limit o n writing old new) (sym is) (next_written o n event writing old new next grew)
 
     tells_begun : (o : Option Left) (before after : Left) (event : Event) (made : ℕ) (old new : Output) → o ≡ Some before
         → Leads (every_condition program) program bound before (event ∷ []) made after
@@ -151,12 +155,15 @@ module _ (program : Program) (bound : ℕ) where
     comes_reached left writing old new result some comes =
         comes_only (RunTells program bound limit left) limit_line 0 writing old new result (reached_tells left some) (λ t s x. x.text_is ∙ text_reached program limit x.events x.ending over) comes
 
+  goes_past : (limit : Option ℕ) (o n : Option Left) (event : Event) → IsNextAt o event n → GoesBehind program bound o n (behind_event event limit)
+  goes_past limit o n (Out text) next = record { before = next.before; after = next.after; event = Out text; was = next.was; is = next.is; made = next.made; tells = next.next }
+  goes_past limit o n (Answer query) next = record { before = next.before; after = next.after; event = Answer query; was = next.was; is = next.is; made = next.made; tells = next.next }
+  goes_past limit o n (Broken c) next = record { before = next.before; after = next.after; event = Broken c; was = next.was; is = next.is; made = next.made; tells = next.next }
+  goes_past limit o n (End e) next = tt
+
   -- where the event is no ending the run goes on
-  pub goes_next : (limit : Option ℕ) (o n : Option Left) (event : Event) → IsNextAt o event n → GoesBehind program bound o n (behind_event event limit)
-  goes_next limit o n (Out text) next = record { before = next.before; after = next.after; event = Out text; was = next.was; is = next.is; made = next.made; tells = next.next }
-  goes_next limit o n (Answer query) next = record { before = next.before; after = next.after; event = Answer query; was = next.was; is = next.is; made = next.made; tells = next.next }
-  goes_next limit o n (Broken c) next = record { before = next.before; after = next.after; event = Broken c; was = next.was; is = next.is; made = next.made; tells = next.next }
-  goes_next limit o n (End e) next = tt
+  pub goes_next : (limit : Option ℕ) (o n : Option Left) (event : Event) (f : Following) → IsNextAt o event n → f ≡ behind_event event limit → GoesBehind program bound o n f
+  goes_next limit o n event f next is = subst (GoesBehind program bound o n) (sym is) (goes_past limit o n event next)
 
   -- where it goes on something is left
   pub some_left : (o n : Option Left) → GoesOn program bound o n → IsSome n

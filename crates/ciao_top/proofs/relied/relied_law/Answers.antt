@@ -6,5 +6,6 @@ returns c = record {
   unrefused = c.one_load_law.ensures.none;
   refusal = c.one_load_law.ensures.refusal;
   name = c.refusal_name_law.ensures;
+  operators = c.unit_operators_law.ensures;
   goal = c.one_goal_law.ensures.goal;
 }

@@ -1,4 +1,4 @@
-use Rattle.std.proofs.Common.{refl, subst, ◌∙◌}
+use Rattle.std.proofs.Common.{refl, sym, subst, ◌∙◌}
 use Rattle.byte_io.specs.Outside.{Rose}
 use Rattle.sld_engine.specs.Runs.{left_of}
 use Rattle.ciao_top.specs.Answers.{output_of}
@@ -23,12 +23,13 @@ events-preserved g c = record {
   there = some_left _ _ _ _ c.in-GoesOn.ensures.goes;
 }
 
-pub returns-if-is_reached : goal.returns-if-is_reached
-returns-if-is_reached g c = record {
-  comes = comes_behind _ _ _ _ _ _ _ _ _ c.events.invariant.sink.later c.events.invariant.so_far
-      (comes_reached _ _ _ (sym c.if-is_reached.ensures) _ _ _ _ _ c.events.invariant.there c.write_limit.ensures.comes);
-  sink = goes_on_twice _ _ _ _ _ _ c.events.invariant.sink c.write_limit.ensures.sink;
-}
+pub returns-then-is_reached-clause-comes : goal.returns-then-is_reached-clause-comes
+returns-then-is_reached-clause-comes g c =
+    comes_behind _ _ _ _ _ _ _ _ _ c.events.invariant.sink.later c.events.invariant.so_far
+    (comes_reached _ _ _ (sym c.if-is_reached.ensures) _ _ _ _ _ c.events.invariant.there c.write_limit.ensures.comes)
+
+pub returns-then-is_reached-clause-sink : goal.returns-then-is_reached-clause-sink
+returns-then-is_reached-clause-sink g c = goes_on_twice _ _ _ _ _ _ c.events.invariant.sink c.write_limit.ensures.sink
 
 pub returns-in-Ends : goal.returns-in-Ends
 returns-in-Ends g c = record {
