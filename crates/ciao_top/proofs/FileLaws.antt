@@ -1,13 +1,18 @@
 -- What a command's load and link say of all files that agree with the reads.
-use Rattle.std.proofs.Common.{◌≡◌, ◌⊎◌, inl, inr, ℕ, zero, ◌≤◌, List, [], ◌++◌, map, drop, length, refl, ◌∙◌, sym, ap, subst, Option, Some, None, append-nil, arith}
+use Rattle.std.proofs.Common.{◌≡◌, ◌⊎◌, inl, inr, ℕ, zero, ◌≤◌, List, [], ◌++◌, map, drop, length, refl, ◌∙◌, sym, ap, subst, Option, Some, None, append-nil, arith, true}
 use Rattle.std.specs.Prelude.{Result, Ok, Err, IfOk, IfErr, IfSome, bytes_eq}
 use Rattle.std.specs.List.{AllByRecursion, IsDistinct}
 use Rattle.std.proofs.Math.Seq.{drop-append_seam}
 use Rattle.byte_io.specs.Outside.{Held, FileRead}
 use Rattle.term_core.specs.Names.{fixed_names}
+use Rattle.term_core.specs.Lists.{IsPrefix}
+use Rattle.term_core.specs.Ranges.{has_names}
+use Rattle.term_core.specs.declared.operators.Operators.{Operators}
 use Rattle.term_core.specs.declared.terms.Term.{Term}
 use Rattle.prog_data.specs.declared.programs.Program.{Program}
 use Rattle.prog_data.specs.declared.refusals.Refusal.{Refusal}
+use Rattle.prog_data.specs.Programs as programs
+use Rattle.prog_data.specs.RangeLaws.{RangesAreKept}
 use Rattle.ciao_modules.specs.FileNames.{Word, folder_of}
 use Rattle.ciao_modules.specs.Loaded.{Loaded, start, none}
 use Rattle.ciao_modules.specs.LoadReads.{Agree, new_reads, AreLoadReads, ReadsTell, IsLoadFault, IsLastFailed}
@@ -24,7 +29,7 @@ use Rattle.ciao_top.specs.declared.stops.Stop.TheVariants as stop
 use Rattle.ciao_top.specs.FileSets.{HasProgram, HasQuery}
 use Rattle.ciao_top.specs.Queries.{main_operators}
 use Rattle.ciao_top.specs.Refused.{FilesRefused, NotLoaded, NotLinked, CommandRefused, OfFiles, Unread, NotExported, NoEntry}
-use Rattle.ciao_top.specs.InnerAnswers.{RefusalStops, FailedStops, LoadStops, LinkStops, HasQueryOf, QueryFaults, QueryStops, HasQueryIn, UnitStops, Stops, CommandReads}
+use Rattle.ciao_top.specs.InnerAnswers.{RefusalStops, FailedStops, LoadStops, LinkStops, HasQueryOf, CallFaults, QueryFaults, QueryStops, HasQueryIn, UnitStops, Stops, IsPrepared, CommandReads}
 
 -- the reads
 
@@ -157,3 +162,34 @@ module _ (command : RunWords) (reads : List FileRead) (reading : Type 0) where
 pub loaded_from : (command : RunWords) (reads : List FileRead) (names before : List Word) (units : List Unit) → before ≡ fixed_names → ((files : Held) → Agree reads files → Loaded files command.file before names units)
     → (files : Held) → Agree reads files → Loaded files command.file fixed_names names units
 loaded_from command reads names before units same loaded files agree = subst (λ ns. Loaded files command.file ns names units) same (loaded files agree)
+
+-- a query that is read and is not to be run
+pub fault_of : (before : Program) (ops : Operators) (text : Word) (program : Program) (query : Term) (why : Reason) → HasQueryOf before ops text program query → CallFaults program query why → QueryFaults before ops text why
+fault_of before ops text program query reason.NoCommand has a = absurd a
+fault_of before ops text program query (reason.OfFiles line) has a = absurd a
+fault_of before ops text program query reason.QueryUnread has a = absurd a
+fault_of before ops text program query reason.QueryNotExported has a = (program, query, has, a)
+fault_of before ops text program query reason.QueryNoEntry has a = (program, query, has, a)
+
+-- the program with the names of a query is in range and as the linker makes it
+pub prepared_in_range : RangesAreKept → (program : Program) (names : List Word) (query : Term) → IsPrefix program.names names → programs.IsProgram program → programs.IsLinked program → has_names (length names) query ≡ true
+    → IsPrepared (programs.with_names names program) query
+prepared_in_range kept program names query first range linked named = record {
+  range = kept.more_names program names first range;
+  linked = record { no_checks = linked.no_checks; no_exit = linked.no_exit };
+  named = named;
+}
+
+-- by the same operators
+pub stops_by : (program : Program) (ops others : Operators) (text : Word) (answer : Result Prepared Stop) → others ≡ ops → IfErr answer (QueryStops program ops text) → IfErr answer (QueryStops program others text)
+stops_by program ops others text answer same a = subst (λ o. IfErr answer (QueryStops program o text)) (sym same) a
+
+-- the query of the program of units
+module _ (names : List Word) (units : List Unit) (text : Word) (before : Program) (is : link.linked names units ≡ link.Linked before) where
+  pub in_ok : (answer : Result Prepared Stop) → IfOk answer (λ p. HasQueryOf before (main_operators units) text p.program p.query) → IfOk answer (λ p. HasQueryIn names units text p.program p.query)
+  in_ok (Ok prepared) a = record { before = before; linked_is = is; of = a }
+  in_ok (Err s) a = tt
+
+  pub in_err : (answer : Result Prepared Stop) → IfErr answer (QueryStops before (main_operators units) text) → IfErr answer (UnitStops names units text)
+  in_err (Ok prepared) a = tt
+  in_err (Err s) a = inr (before, is, a)
