@@ -1,5 +1,5 @@
 -- What a command's load and link say of all files that agree with the reads.
-use Rattle.std.proofs.Common.{◌≡◌, ◌⊎◌, inl, inr, ℕ, zero, ◌≤◌, List, [], ◌++◌, map, drop, length, refl, ◌∙◌, sym, ap, subst, Option, Some, None, append-nil, arith, true}
+use Rattle.std.proofs.Common.{◌≡◌, ◌⊎◌, inl, inr, ℕ, ◌≤◌, List, [], ◌∷◌, ◌++◌, map, drop, length, refl, ◌∙◌, sym, ap, subst, Option, Some, None, append-nil, arith, true}
 use Rattle.std.specs.Prelude.{Result, Ok, Err, IfOk, IfErr, IfSome, bytes_eq}
 use Rattle.std.specs.List.{AllByRecursion, IsDistinct}
 use Rattle.std.proofs.Math.Seq.{drop-append_seam}
@@ -7,6 +7,7 @@ use Rattle.byte_io.specs.Outside.{Held, FileRead}
 use Rattle.term_core.specs.Names.{fixed_names}
 use Rattle.term_core.specs.Lists.{IsPrefix}
 use Rattle.term_core.specs.Ranges.{has_names}
+use Rattle.term_core.specs.Standard.{standard}
 use Rattle.term_core.specs.declared.operators.Operators.{Operators}
 use Rattle.term_core.specs.declared.terms.Term.{Term}
 use Rattle.prog_data.specs.declared.programs.Program.{Program}
@@ -159,9 +160,10 @@ module _ (command : RunWords) (reads : List FileRead) (reading : Type 0) where
     units_ok (Err s) a = tt
 
 -- the units of a load, by the names that it began with
-pub loaded_from : (command : RunWords) (reads : List FileRead) (names before : List Word) (units : List Unit) → before ≡ fixed_names → ((files : Held) → Agree reads files → Loaded files command.file before names units)
-    → (files : Held) → Agree reads files → Loaded files command.file fixed_names names units
-loaded_from command reads names before units same loaded files agree = subst (λ ns. Loaded files command.file ns names units) same (loaded files agree)
+pub loaded_from : (command : RunWords) (reads : List FileRead) (names before : List Word) (units seen : List Unit) → before ≡ fixed_names → seen ≡ units → ((files : Held) → Agree reads files → Loaded files command.file before names units)
+    → (files : Held) → Agree reads files → Loaded files command.file fixed_names names seen
+loaded_from command reads names before units seen same e loaded files agree =
+    subst (Loaded files command.file fixed_names names) (sym e) (subst (λ ns. Loaded files command.file ns names units) same (loaded files agree))
 
 -- a query that is read and is not to be run
 pub fault_of : (before : Program) (ops : Operators) (text : Word) (program : Program) (query : Term) (why : Reason) → HasQueryOf before ops text program query → CallFaults program query why → QueryFaults before ops text why
@@ -193,3 +195,8 @@ module _ (names : List Word) (units : List Unit) (text : Word) (before : Program
   pub in_err : (answer : Result Prepared Stop) → IfErr answer (QueryStops before (main_operators units) text) → IfErr answer (UnitStops names units text)
   in_err (Ok prepared) a = tt
   in_err (Err s) a = inr (before, is, a)
+
+-- no units have the standard operators
+pub no_units : (units : List Unit) → length units ≡ 0 → main_operators units ≡ standard
+no_units [] none = refl
+no_units (u ∷ units) none = absurd (omega (none, arith))
