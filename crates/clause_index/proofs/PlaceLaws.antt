@@ -69,7 +69,7 @@ pub next_at : (old new : Key → List ℕ) (keys : List Key) (i : ℕ) (d : Key)
 next_at old new keys i d lt added before = next_key old new keys i (get_or keys i d) lt (get_or_default keys i d (get_or keys i d) lt) added before
 
 -- after the last key
-pub last_key : (found : Key → List ℕ) (keys : List Key) (i : ℕ) → (i < length keys → ⊥) → ((key : Key) → found key ++ places_from (agrees key) (length (found Free)) (drop i keys) ≡ selected keys key) →
+pub last_key : (found : Key → List ℕ) (keys : List Key) (i : ℕ) → length keys ≤ i → ((key : Key) → found key ++ places_from (agrees key) (length (found Free)) (drop i keys) ≡ selected keys key) →
     (key : Key) → found key ≡ selected keys key
 last_key found keys i out before key = sym (append-nil (found key)) ∙ sym (at_drop_all (λ ks. found key ++ places_from (agrees key) (length (found Free)) ks) keys i out) ∙ before key
 
