@@ -1,25 +1,22 @@
 -- A clause that is left out clashes in its first equation.
-use Rattle.std.proofs.Common.{◌≡◌, ◌+◌, ◌<◌, ◌≤◌, ℕ, true, false, ◌⊎◌, inl, inr, List, [], ◌∷◌, map, length, get_or, refl, ap, sym, ◌∙◌, arith, true≢false}
-use Rattle.std.specs.Prelude.{◌==◌, ◌&&◌, ◌||◌, if◌then◌else◌, slice_get, nat_eq, None, Some}
+use Rattle.std.proofs.Common.{◌≡◌, ◌+◌, ◌<◌, ◌≤◌, ℕ, false, ◌⊎◌, inl, inr, List, [], ◌∷◌, map, length, get_or, refl, ap, sym, ◌∙◌, arith, true≢false}
+use Rattle.std.specs.Prelude.{◌&&◌, if◌then◌else◌, slice_get, None, Some}
 use Rattle.std.specs.Cmp.{nat_eq_equiv}
 use Rattle.std.specs.Option.{option_map_or}
-use Rattle.std.specs.Ordering.{int_eq}
 use Rattle.std.proofs.lemmas.Cmp.{int_eq_equiv}
 use Rattle.std.proofs.lemmas.List.{length-map}
 use Rattle.std.proofs.lemmas.Option.{slice_get_cases}
-use Rattle.term_core.specs.declared.equations.Outcome.TheVariants.{Clash}
 use Rattle.term_core.specs.declared.terms.Term.{Term, out-Term}
 use Rattle.term_core.specs.declared.terms.Term.TheOpen.{Term-F, Var, Int, Atom, Node}
 use Rattle.term_core.specs.declared.terms.Term.TheVariants.{outs-Var, outs-Node}
-use Rattle.term_core.specs.Terms.{instance, instance_step, higher, rename}
-use Rattle.term_core.specs.Unify.{pairs, Becomes, Clashes, move, move_at, after, Open, Ended, solve}
+use Rattle.term_core.specs.Terms.{instance_step, higher, rename}
+use Rattle.term_core.specs.Unify.{pairs, Becomes, Clashes, move, move_at, after, Open, solve}
 use Rattle.term_core.proofs.TermFolds.{fold-Int, fold-Atom}
 use Rattle.term_core.proofs.TermLaws.{instance-Var, instance-Node}
 use Rattle.term_core.proofs.VariantLaws.{View, is_var, is_int, is_atom, is_node, view}
 use Rattle.prog_data.specs.declared.programs.Clause.{Clause}
 use Rattle.prog_data.specs.declared.programs.Program.{Program}
 use Rattle.prog_data.specs.Goals.{pred_of}
-use Rattle.clause_index.specs.declared.keys.Key.{Key}
 use Rattle.clause_index.specs.declared.keys.Key.TheVariants as key
 use Rattle.clause_index.specs.Keys.{key_at, first_key, head_key, agrees}
 use Rattle.clause_index.specs.Selected.{can_match}

@@ -1,6 +1,6 @@
 -- What is selected of the keys of a program.
 use Rattle.std.proofs.Common.{◌≡◌, ◌+◌, ◌<◌, ◌≤◌, ℕ, zero, suc, true, false, ◌⊎◌, inl, inr, List, [], ◌∷◌, map, length, get_or, refl, ap, sym, ◌∙◌, subst, arith}
-use Rattle.std.specs.Prelude.{◌==◌, filter, slice_get, None, Some}
+use Rattle.std.specs.Prelude.{filter, slice_get, None, Some}
 use Rattle.std.specs.List.{list_all, AllByRecursion}
 use Rattle.std.specs.Option.{option_map_or}
 use Rattle.std.proofs.lemmas.Bool.{and_parts}
@@ -15,7 +15,7 @@ use Rattle.prog_data.specs.Ranges.{is_clause_of}
 use Rattle.prog_data.specs.Programs.{IsProgram}
 use Rattle.clause_index.specs.declared.keys.Key.{Key}
 use Rattle.clause_index.specs.declared.keys.Key.TheVariants.{Free}
-use Rattle.clause_index.specs.Keys.{first_key, head_key, is_free, agrees}
+use Rattle.clause_index.specs.Keys.{first_key, head_key, agrees}
 use Rattle.clause_index.specs.Selected.{numbers, selected, program_keys, keys_at, can_match}
 use Rattle.clause_index.specs.Laws.{SelectsInOrder, SelectsAll}
 use Rattle.clause_index.proofs.KeyLaws.{equal_numbers, agrees_free}

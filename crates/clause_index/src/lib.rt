@@ -5,6 +5,8 @@ mod index;
 mod keys;
 mod laws;
 mod lists;
+#[cfg(test)]
+mod selections;
 
 pub use index::Index;
 pub use keys::{Key, key_of};
