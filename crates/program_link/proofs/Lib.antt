@@ -1,5 +1,6 @@
 mod FaultLaws
 mod HeldLaws
+<<<<<<< HEAD
 mod LeastLaws
 mod LinkedLaws
 mod LowerLaws
@@ -12,3 +13,10 @@ mod ProgramNames
 mod ProgramNormals
 mod ProgramRange
 mod Untroubled
+=======
+mod DraftLaws
+mod SoundLaws
+mod ClaimLaws
+mod ProgramLaws
+mod MadeLaws
+>>>>>>> 90c4031c46bce8629605e350c9acb16e29c6621e
