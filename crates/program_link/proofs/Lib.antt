@@ -1,22 +1,19 @@
+mod ClaimLaws
+mod DraftLaws
 mod FaultLaws
 mod HeldLaws
-<<<<<<< HEAD
 mod LeastLaws
 mod LinkedLaws
 mod LowerLaws
+mod MadeLaws
 mod ProgramBodies
 mod ProgramClaims
 mod ProgramConditions
 mod ProgramGrammars
+mod ProgramLaws
 mod ProgramLists
 mod ProgramNames
 mod ProgramNormals
 mod ProgramRange
-mod Untroubled
-=======
-mod DraftLaws
 mod SoundLaws
-mod ClaimLaws
-mod ProgramLaws
-mod MadeLaws
->>>>>>> 90c4031c46bce8629605e350c9acb16e29c6621e
+mod Untroubled
