@@ -1,5 +1,5 @@
 -- What is found of units by what is held of them is what their files define.
-use Rattle.std.proofs.Common.{◌≡◌, ℕ, zero, suc, ◌+◌, ◌<◌, Bool, not, List, [], ◌∷◌, ◌++◌, length, get_or, drop, map, refl, ap, sym, ◌∙◌, subst, arith}
+use Rattle.std.proofs.Common.{◌≡◌, ℕ, zero, suc, ◌+◌, ◌<◌, not, List, [], ◌∷◌, ◌++◌, length, get_or, drop, map, refl, ap, sym, ◌∙◌, subst, arith}
 use Rattle.std.specs.Prelude.{⊤, ◌||◌, ◌&&◌, flat_map, slice_get, Option, Some, None}
 use Rattle.std.specs.Option.{option_map_or}
 use Rattle.term_core.specs.Names.{name_text}
@@ -8,13 +8,12 @@ use Rattle.term_core.proofs.OperandLaws.{none_part, some_part}
 use Rattle.prog_data.specs.declared.refusals.RefusalKind.TheVariants as kind
 use Rattle.ciao_modules.specs.FileNames.{Word}
 use Rattle.ciao_modules.specs.UnitRanges.{exports_of}
-use Rattle.ciao_modules.specs.declared.units.Export.{Export}
 use Rattle.ciao_modules.specs.declared.units.Import.{Import}
 use Rattle.ciao_modules.specs.declared.units.Unit.{Unit}
 use Rattle.assertion_read.specs.declared.assertions.Assertion.{Assertion}
 use Rattle.assertion_normal.specs.Troubles.{trouble_of}
 use Rattle.regtype_grammar.specs.TypeFaults.{refused}
-use Rattle.regtype_grammar.specs.Grammars.{IsTypeFault, grammar_of}
+use Rattle.regtype_grammar.specs.Grammars.{IsTypeFault}
 use Rattle.regtype_grammar.specs.declared.modules.TypeFault.{TypeFault}
 use Rattle.regtype_grammar.specs.declared.modules.TypeFault.TheVariants as types
 use Rattle.regtype_grammar.specs.declared.modules.TypeModule.{TypeModule}
@@ -22,16 +21,16 @@ use Rattle.body_code.specs.declared.faults.Indicator.{Indicator}
 use Rattle.unit_scopes.specs.Indicators.{is_among}
 use Rattle.unit_scopes.specs.Sayings.{File, file_of}
 use Rattle.unit_scopes.specs.Numbering.{indicators, asserted}
-use Rattle.unit_scopes.specs.Imports.{exported, exports_all, is_exported, is_named_in, kinds_seen, scope_of, type_modules}
+use Rattle.unit_scopes.specs.Imports.{exported, exports_all, is_exported, kinds_seen, scope_of, type_modules}
 use Rattle.unit_scopes.specs.Settings.{setting_of, settings_from, settings}
-use Rattle.unit_scopes.specs.Sources.{index_exports, IsIndex, IsSource, AreSources}
+use Rattle.unit_scopes.specs.Sources.{index_exports, IsIndex, AreSources}
 use Rattle.unit_scopes.specs.declared.sayings.Parts.{Parts}
 use Rattle.unit_scopes.specs.declared.settings.Setting.{Setting}
 use Rattle.unit_scopes.specs.declared.sources.Source.{Source}
 use Rattle.program_link.specs.FaultOrder.{sooner, least_from, least}
 use Rattle.program_link.specs.NamedFaults.{fault_where, fault_of, broken_fault, is_everywhere, is_offered, export_faults, import_faults}
 use Rattle.program_link.specs.Faults.{trouble_kind, clause_faults, assertion_faults, type_faults, file_faults, faults_from, all_faults}
-use Rattle.program_link.specs.Offers.{source_offers, source_named_faults, source_import_faults}
+use Rattle.program_link.specs.Offers.{source_offers, source_import_faults}
 use Rattle.program_link.specs.HeldFaults.{held_export_faults, held_assertion_faults, held_faults, held_at, held_from}
 use Rattle.program_link.specs.declared.faults.Fault.{Fault}
 use Rattle.program_link.proofs.FaultLaws.{least_behind, then_more}
@@ -158,14 +157,6 @@ least_is names us sources held_settings told found are set types_are is =
     ∙ ap (sooner (least (faults_from names files 0 files))) (sym types_are)
     ∙ types_told (least (faults_from names files 0 files)) refusal
     ∙ sym (least_behind None (faults_from names files 0 files) (type_faults refusal))
-
--- what is told of types that have no grammar is their first fault
-pub told_of_types : (modules : List TypeModule) (fault : TypeFault) → (fault ≡ types.NoMemory → ⊥) → IsTypeFault modules fault → least_from None (type_faults (refused modules)) ≡ least (type_faults (Some fault))
-told_of_types modules (types.BadRegtype position place) other e = ap (λ t. least (type_faults t)) e
-told_of_types modules (types.UnknownProperty position place) other e = ap (λ t. least (type_faults t)) e
-told_of_types modules (types.Ambiguous position place) other e = ap (λ t. least (type_faults t)) e
-told_of_types modules types.TooManyNames other e = ap (λ t. least (type_faults t)) e.0
-told_of_types modules types.NoMemory other e = absurd (other refl)
 
 -- a turn of the loop over units
 pub held_next : (names : List Word) (sources : List Source) (ss : List Setting) (old new : Option Fault) (us : List Unit) (at : ℕ) (u : Unit) → at < length us → u ≡ get_or us at u

@@ -1,6 +1,6 @@
 -- The least of some faults is one of them, and none comes before it.
 use Rattle.std.proofs.Common.{◌≡◌, ◌⊎◌, inl, inr, ℕ, suc, ◌<◌, ◌≤◌, ◌==◌, nat_lt, Bool, true, false, List, [], ◌∷◌, length, refl, ap, sym, subst, ◌∙◌, true≢false, arith}
-use Rattle.std.specs.Prelude.{⊤, ◌&&◌, ◌||◌, ◌↔◌, cond, Contains, Option, Some, None}
+use Rattle.std.specs.Prelude.{⊤, ◌&&◌, ◌||◌, cond, Contains, Option, Some, None}
 use Rattle.std.specs.List.{AllByRecursion}
 use Rattle.std.proofs.lemmas.Bool.Decides.{nat_tests}
 use Rattle.term_core.proofs.OperandLaws.{none_part, some_part, eqb-eq}

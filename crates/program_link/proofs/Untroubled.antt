@@ -17,14 +17,12 @@ use Rattle.regtype_grammar.specs.TypeFaults.{refused}
 use Rattle.regtype_grammar.specs.Grammars.{IsTypeFault}
 use Rattle.regtype_grammar.specs.declared.modules.TypeFault.{TypeFault}
 use Rattle.regtype_grammar.specs.declared.modules.TypeFault.TheVariants as types
-use Rattle.regtype_grammar.specs.declared.modules.TypeModule.{TypeModule}
 use Rattle.body_code.specs.Clauses.{problem_of}
 use Rattle.body_code.specs.declared.faults.Problem.{Problem}
 use Rattle.body_code.specs.declared.faults.Problem.TheVariants as problem
 use Rattle.unit_scopes.specs.Sayings.{File}
 use Rattle.unit_scopes.specs.Numbering.{defines, asserted}
 use Rattle.unit_scopes.specs.Imports.{exported, kinds_seen, scope_of, type_modules}
-use Rattle.unit_scopes.specs.declared.sayings.Broken.{Broken}
 use Rattle.program_link.specs.FaultOrder.{least}
 use Rattle.program_link.specs.NamedFaults.{fault_where, fault_of, broken_fault, export_faults, import_faults}
 use Rattle.program_link.specs.Faults.{trouble_kind, problem_kind, assertion_faults, clause_faults, type_faults, file_faults, faults_from, all_faults}
@@ -154,11 +152,3 @@ no_fault_at names files none at f is =
 -- where no fault is found, none is told of types
 pub no_types_told : (names : List Word) (files : List File) → least (all_faults names files) ≡ None → type_faults (refused (type_modules files)) ≡ []
 no_types_told names files none = rest_empty (faults_from names files 0 files) (type_faults (refused (type_modules files))) (none_least (all_faults names files) none)
-
--- where no fault is found and types have no grammar, names are wanting
-pub names_wanting : (names : List Word) (files : List File) (fault : TypeFault) → least (all_faults names files) ≡ None → (fault ≡ types.NoMemory → ⊥) → IsTypeFault (type_modules files) fault → fault ≡ types.TooManyNames
-names_wanting names files (types.BadRegtype position place) none other e = absurd (not_empty _ [] (ap type_faults (sym e) ∙ no_types_told names files none))
-names_wanting names files (types.UnknownProperty position place) none other e = absurd (not_empty _ [] (ap type_faults (sym e) ∙ no_types_told names files none))
-names_wanting names files (types.Ambiguous position place) none other e = absurd (not_empty _ [] (ap type_faults (sym e) ∙ no_types_told names files none))
-names_wanting names files types.TooManyNames none other e = refl
-names_wanting names files types.NoMemory none other e = absurd (other refl)

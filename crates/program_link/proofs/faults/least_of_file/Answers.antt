@@ -26,6 +26,6 @@ returns c =
     c.least_of_exports-exports.ensures
     (c.least_of_imports-imports.ensures ∙ ap (λ xs. least_from c.least_of_exports-exports.result (flat_map (source_import_faults names c.args.sources.now at) xs)) c.as_slice-2.ensures)
     (c.least_of_assertions-assertions.ensures
-      ∙ ap (λ ts. least_from c.least_of_imports-imports.result (flat_map (held_assertion_faults names ts at source.index) c.as_slice-3.result.now)) c.types.ensures
-      ∙ ap (λ xs. least_from c.least_of_imports-imports.result (flat_map (held_assertion_faults names scope.types at source.index) xs)) c.as_slice-3.ensures)
+    ∙ ap (λ ts. least_from c.least_of_imports-imports.result (flat_map (held_assertion_faults names ts at source.index) c.as_slice-3.result.now)) c.types.ensures
+    ∙ ap (λ xs. least_from c.least_of_imports-imports.result (flat_map (held_assertion_faults names scope.types at source.index) xs)) c.as_slice-3.ensures)
     (c.least_of_clauses.ensures ∙ ap (λ xs. least_from c.least_of_assertions-assertions.result (flat_map (clause_faults scope at) xs)) c.as_slice-4.ensures)
