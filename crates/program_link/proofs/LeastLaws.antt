@@ -1,6 +1,6 @@
 -- The least of some faults is one of them, and none comes before it.
 use Rattle.std.proofs.Common.{◌≡◌, ◌⊎◌, inl, inr, ℕ, suc, ◌<◌, ◌≤◌, ◌==◌, nat_lt, Bool, true, false, List, [], ◌∷◌, length, refl, ap, sym, subst, ◌∙◌, true≢false, arith}
-use Rattle.std.specs.Prelude.{⊤, ◌&&◌, ◌||◌, ◌↔◌, cond, Contains, Option, Some, None}
+use Rattle.std.specs.Prelude.{⊤, ◌&&◌, ◌||◌, cond, Contains, Option, Some, None}
 use Rattle.std.specs.List.{AllByRecursion}
 use Rattle.std.proofs.lemmas.Bool.Decides.{nat_tests}
 use Rattle.term_core.proofs.OperandLaws.{none_part, some_part, eqb-eq}
@@ -171,7 +171,7 @@ some_left : (a : Fault) (fs : List Fault) → least_from (Some a) fs ≡ None �
 some_left a [] e = none_part a (sym e)
 some_left a (f ∷ fs) e = let p = pick (Some a) f in some_left p.0 fs (ap (λ o. least_from o fs) (sym p.1) ∙ e)
 
-none_least : (fs : List Fault) → least fs ≡ None → fs ≡ []
+pub none_least : (fs : List Fault) → least fs ≡ None → fs ≡ []
 none_least [] e = refl
 none_least (f ∷ fs) e = absurd (some_left f fs e)
 

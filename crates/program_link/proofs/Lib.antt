@@ -1,2 +1,4 @@
 mod FaultLaws
 mod LeastLaws
+mod Untroubled
+mod HeldLaws

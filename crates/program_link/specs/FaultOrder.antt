@@ -36,4 +36,3 @@ least_from found (f ∷ fs) = least_from (sooner found (Some f)) fs
 -- the first of some faults
 abbrev pub least : List Fault → Option Fault
 least fs = least_from None fs
-

@@ -6,3 +6,4 @@ pub mod Programs
 pub mod Linked
 pub mod Laws
 pub mod Offers
+pub mod HeldFaults

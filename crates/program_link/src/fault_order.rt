@@ -1,6 +1,7 @@
 // The fault that comes first.
 ghost use Rattle.std.specs.Prelude.{◌≡◌, Some};
-ghost use Rattle.program_link.specs.FaultOrder.{rank, is_before, sooner};
+ghost use Rattle.program_link.specs.FaultOrder.{rank, is_before, sooner, least_from};
+ghost use Rattle.program_link.specs.NamedFaults.{fault_where, fault_of};
 
 use crate::faults::Fault;
 use prog_data::RefusalKind;
@@ -59,5 +60,37 @@ pub(crate) fn sooner(a: Option<Fault>, b: Fault) -> Option<Fault>
                 Some(first)
             }
         }
+    }
+}
+
+/// The same, where there may be no second one.
+pub(crate) fn sooner_of_two(a: Option<Fault>, b: Option<Fault>) -> Option<Fault>
+    ensures { result ≡ sooner a b }
+{
+    match b {
+        None => a,
+        Some(second) => sooner(a, second),
+    }
+}
+
+/// The first of a fault and one at a line, where something is wrong.
+pub(crate) fn sooner_where(found: Option<Fault>, wrong: bool, fault: Fault) -> Option<Fault>
+    ensures { result ≡ least_from found (fault_where wrong fault.unit fault.line fault.kind) }
+{
+    if wrong { sooner(found, fault) } else { found }
+}
+
+/// The same, where there is a kind.
+pub(crate) fn sooner_of_kind(
+    found: Option<Fault>,
+    unit: u64,
+    line: u64,
+    kind: Option<RefusalKind>,
+) -> Option<Fault>
+    ensures { result ≡ least_from found (fault_of unit line kind) }
+{
+    match kind {
+        None => found,
+        Some(kind) => sooner(found, Fault { unit, line, kind }),
     }
 }

@@ -1,17 +1,22 @@
 // What is wrong with units.
-ghost use Rattle.std.specs.Prelude.{◌≡◌, not, map, flat_map, option_copied};
-ghost use Rattle.program_link.specs.FaultOrder.{least_from};
-ghost use Rattle.unit_scopes.specs.Imports.{exported};
-ghost use Rattle.unit_scopes.specs.Indicators.{is_among};
-ghost use Rattle.program_link.specs.NamedFaults.{fault_where, broken_fault, is_basic_property, is_output, is_everywhere};
-ghost use Rattle.program_link.specs.Offers.{source_offers};
+ghost use Rattle.std.specs.Prelude.{◌≡◌, Some, None, map, slice_get};
+ghost use Rattle.regtype_grammar.specs.TypeFaults.{refused};
+ghost use Rattle.unit_scopes.specs.Sayings.{file_of};
+ghost use Rattle.unit_scopes.specs.Sources.{AreSources};
+ghost use Rattle.unit_scopes.specs.Settings.{settings as settings_of};
+ghost use Rattle.unit_scopes.specs.Imports.{type_modules};
+ghost use Rattle.program_link.specs.FaultOrder.{least_from, least};
+ghost use Rattle.program_link.specs.Faults.{type_faults, all_faults};
+ghost use Rattle.program_link.specs.HeldFaults.{held_faults, held_at, held_from};
 
-use crate::fault_order::sooner;
-use body_code::Indicator;
-use ciao_modules::Export;
-use prog_data::RefusalKind;
-use term_core::{GROUND, LIST, NL, Names, TERM, WRITE, WRITEQ};
-use unit_scopes::{Broken, Index, Source, exported};
+use crate::fault_order::sooner_of_two;
+use crate::named_faults::{least_of_exports, least_of_imports};
+use crate::sentence_faults::{least_of_assertions, least_of_broken, least_of_clauses};
+use ciao_modules::Unit;
+use prog_data::{Place, RefusalKind};
+use regtype_grammar::TypeFault;
+use term_core::Names;
+use unit_scopes::{Setting, Source};
 
 /// A rule of the language that is broken in a line of a unit, which is given by its place in the load order.
 #[derive(Clone, Copy, Drop, Debug)]
@@ -21,83 +26,111 @@ pub(crate) struct Fault {
     pub(crate) kind: RefusalKind,
 }
 
-// The first of a fault and one at a line, where something is wrong.
-fn sooner_where(found: Option<Fault>, wrong: bool, fault: Fault) -> Option<Fault>
-    ensures { result ≡ least_from found (fault_where wrong fault.unit fault.line fault.kind) }
-{
-    if wrong { sooner(found, fault) } else { found }
-}
-
-/// The first of a fault and those of sentences that break a rule by themselves.
-pub(crate) fn least_of_broken(found: Option<Fault>, at: u64, broken: &[Broken]) -> Option<Fault>
-    ensures { result ≡ least_from found (map (broken_fault at) broken.now) }
-{
-    let mut least = found;
-    for one in broken {
-        least = sooner(
-            least,
-            Fault {
-                unit: at,
-                line: one.line,
-                kind: one.kind,
-            },
-        );
-    }
-    least
-}
-
-/// The first of a fault and those of exports without clauses.
-pub(crate) fn least_of_exports(
+// The first of a fault and those of the unit at a place, but for its types.
+fn least_of_file(
+    names: &Names,
     found: Option<Fault>,
     at: u64,
-    index: &Index,
-    exports: &[Export],
+    sources: &[Source],
+    unit: &Unit,
+    source: &Source,
+    setting: &Setting,
 ) -> Option<Fault>
-    ensures { result ≡ least_from found (flat_map (λ e. fault_where (not (is_among (exported e) index.now.defined.keys)) at e.line RefusalKind.Undefined) exports.now) }
+    ensures { result ≡ least_from found (held_faults names.now sources.now at unit.now source.now setting.now) }
 {
-    let mut least = found;
-    for export in exports {
-        let undefined = Fault {
-            unit: at,
-            line: export.line,
-            kind: RefusalKind::Undefined,
-        };
-        least = sooner_where(least, !index.defines(exported(*export)), undefined);
+    let broken = least_of_broken(found, at, source.parts.broken.as_slice());
+    let exports = least_of_exports(broken, at, &source.index, &unit.exports);
+    let imports = least_of_imports(names, exports, at, sources, unit.imports.as_slice());
+    let assertions = least_of_assertions(
+        names,
+        imports,
+        at,
+        setting.scope.types(),
+        &source.index,
+        source.parts.assertions.as_slice(),
+    );
+    least_of_clauses(
+        assertions,
+        at,
+        &setting.scope,
+        source.parts.clauses.as_slice(),
+    )
+}
+
+// The same, where its source and its setting are found.
+fn least_at(
+    names: &Names,
+    found: Option<Fault>,
+    at: u64,
+    sources: &[Source],
+    settings: &[Setting],
+    unit: &Unit,
+) -> Option<Fault>
+    ensures { result ≡ least_from found (held_at names.now sources.now at unit.now (slice_get sources.now at) (slice_get settings.now at)) }
+{
+    match sources.get(at as usize) {
+        None => found,
+        Some(source) => match settings.get(at as usize) {
+            None => found,
+            Some(setting) => least_of_file(names, found, at, sources, unit, source, setting),
+        },
+    }
+}
+
+// The first fault of units, but for those of types.
+fn least_of_files(
+    names: &Names,
+    units: &[Unit],
+    sources: &[Source],
+    settings: &[Setting],
+) -> Option<Fault>
+    ensures { result ≡ least (held_from names.now sources.now settings.now 0 units.now) }
+{
+    let mut least = None;
+    for (at, unit) in units.iter().enumerate() {
+        least = least_at(names, least, at as u64, sources, settings, unit);
     }
     least
 }
 
-fn is_basic_property(indicator: Indicator) -> bool
-    ensures { result ≡ is_basic_property indicator }
+// A fault of types at a place.
+fn fault_at(unit: u64, place: Place, kind: RefusalKind) -> Option<Fault>
+    ensures { result ≡ Some (record { unit = unit; line = place.line; kind = kind }) }
 {
-    (indicator.arity == 1 && (TERM <= indicator.name && indicator.name <= GROUND))
-        || (indicator.arity == 2 && indicator.name == LIST)
+    Some(Fault {
+        unit,
+        line: place.line,
+        kind,
+    })
 }
 
-fn is_output(indicator: Indicator) -> bool
-    ensures { result ≡ is_output indicator }
+/// A fault of types, in the unit of its module; none where names or memory are wanting.
+pub(crate) fn type_fault(fault: &TypeFault) -> Option<Fault>
+    ensures { result ≡ least (type_faults (Some fault.now)) }
 {
-    (indicator.arity == 1 && (indicator.name == WRITE || indicator.name == WRITEQ))
-        || (indicator.arity == 0 && indicator.name == NL)
-}
-
-// Whether a predicate is seen everywhere, and may be named of this library all the same.
-fn is_everywhere(file: &str, indicator: Indicator) -> bool
-    ensures { result ≡ is_everywhere file.now indicator }
-{
-    (file == "library(basic_props)" && is_basic_property(indicator))
-        || (file == "library(write)" && is_output(indicator))
-}
-
-// Whether a unit, if it is there, has a predicate for those that name it.
-fn is_offered(names: &Names, source: Option<&Source>, indicator: Indicator) -> bool
-    ensures { result ≡ source_offers names.now indicator (option_copied source.entry) }
-{
-    match source {
-        None => false,
-        Some(source) => {
-            source.index.exports(indicator)
-                || is_everywhere(names.text_or_empty(source.file), indicator)
+    match fault {
+        TypeFault::BadRegtype(unit, place) => fault_at(*unit, *place, RefusalKind::BadRegtype),
+        TypeFault::UnknownProperty(unit, place) => {
+            fault_at(*unit, *place, RefusalKind::UnknownProperty)
         }
+        TypeFault::Ambiguous(unit, place) => fault_at(*unit, *place, RefusalKind::Ambiguous),
+        TypeFault::TooManyNames | TypeFault::NoMemory => None,
     }
+}
+
+/// The fault of units that comes first, of those of their types the one that is found.
+pub(crate) fn least_fault(
+    names: &Names,
+    units: &[Unit],
+    sources: &[Source],
+    settings: &[Setting],
+    types: Option<Fault>,
+) -> Option<Fault>
+    requires sources { AreSources 0 0 (map file_of units.now) sources.now }
+    requires settings { settings.now ≡ settings_of (map file_of units.now) }
+    requires types { least_from None (type_faults (refused (type_modules (map file_of units.now)))) ≡ types }
+    ensures { result ≡ least (all_faults names.now (map file_of units.now)) }
+{
+    let found = least_of_files(names, units, sources, settings);
+    sooner_of_two(found, types)
 }
