@@ -36,10 +36,10 @@ use Rattle.program_link.specs.declared.faults.Fault.{Fault}
 use Rattle.program_link.proofs.FaultLaws.{least_behind, then_more}
 
 -- what is held of a file, wherever it stands
-record IsHeld (f : File) (s : Source) : Type 0 where
-  file : s.file ≡ f.unit.file
-  parts : s.parts ≡ f.parts
-  index : IsIndex f s.index
+pub record IsHeld (f : File) (s : Source) : Type 0 where
+  pub file : s.file ≡ f.unit.file
+  pub parts : s.parts ≡ f.parts
+  pub index : IsIndex f s.index
 
 -- the same at a place, or nothing there
 abbrev Looks : Option File → Option Source → Type 0
@@ -54,7 +54,7 @@ looks_at at first (f ∷ fs) (s ∷ ss) h zero = record { file = h.0.file; parts
 looks_at at first (f ∷ fs) (s ∷ ss) h (suc i) = looks_at (suc at) _ fs ss h.1 i
 
 -- the setting of the file at a place
-setting_there : (files : List File) (start : ℕ) (fs : List File) (i : ℕ) (f : File) → slice_get fs i ≡ Some f → (at : ℕ) → at ≡ i + start → slice_get (settings_from files start fs) i ≡ Some (setting_of files at f)
+pub setting_there : (files : List File) (start : ℕ) (fs : List File) (i : ℕ) (f : File) → slice_get fs i ≡ Some f → (at : ℕ) → at ≡ i + start → slice_get (settings_from files start fs) i ≡ Some (setting_of files at f)
 setting_there files start [] i f is at place = absurd (none_part f is)
 setting_there files start (g ∷ fs) zero f is at place =
     let same : start ≡ at = omega (arith, place) in
@@ -62,7 +62,7 @@ setting_there files start (g ∷ fs) zero f is at place =
 setting_there files start (g ∷ fs) (suc i) f is at place = setting_there files (suc start) fs i f is at (omega (arith, place))
 
 -- an index exports what its file does
-exports_same : (f : File) (s : Source) → IsHeld f s → (p : Indicator) → index_exports s.index p ≡ is_exported f p
+pub exports_same : (f : File) (s : Source) → IsHeld f s → (p : Indicator) → index_exports s.index p ≡ is_exported f p
 exports_same f s h p =
     ap (λ all. (all && is_among p s.index.defined.keys) || is_among p s.index.exported.keys) h.index.all
     ∙ ap (λ ps. (exports_all f.unit.exports && is_among p ps) || is_among p s.index.exported.keys) h.index.defined

@@ -2,3 +2,8 @@ mod FaultLaws
 mod LeastLaws
 mod Untroubled
 mod HeldLaws
+mod DraftLaws
+mod SoundLaws
+mod ClaimLaws
+mod ProgramLaws
+mod MadeLaws

@@ -7,3 +7,4 @@ pub mod Linked
 pub mod Laws
 pub mod Offers
 pub mod HeldFaults
+pub mod HeldPrograms

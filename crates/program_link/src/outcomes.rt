@@ -33,3 +33,32 @@ impl From<NoMemory> for LinkFault {
         LinkFault::NoMemory
     }
 }
+
+/// Why something of a program is not made.
+#[derive(Clone, Copy, Drop, Debug)]
+pub(crate) enum RoomFault {
+    /// More than 512 grammar names are needed.
+    TooManyNames,
+    /// Memory was refused, or numbers are wanting.
+    NoMemory,
+}
+
+impl From<AllocError> for RoomFault {
+    ghost use Rattle.program_link.specs.declared.outcomes.RoomFault.TheVariants as RoomFault;
+
+    ghost from_gives = { λ _ fault. fault ≡ RoomFault.NoMemory };
+
+    fn from(_error: AllocError) -> RoomFault {
+        RoomFault::NoMemory
+    }
+}
+
+impl From<NoMemory> for RoomFault {
+    ghost use Rattle.program_link.specs.declared.outcomes.RoomFault.TheVariants as RoomFault;
+
+    ghost from_gives = { λ _ fault. fault ≡ RoomFault.NoMemory };
+
+    fn from(_memory: NoMemory) -> RoomFault {
+        RoomFault::NoMemory
+    }
+}
