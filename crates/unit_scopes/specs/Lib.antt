@@ -9,3 +9,4 @@ pub mod Sources
 pub mod Copies
 pub mod Held
 pub mod Laws
+pub mod Ranges
