@@ -52,7 +52,7 @@ module _ (stay : MeaningsStayInRange) (listings : ListingsStayInRange) (visible 
   made_grows x g = grows_self (λ size. AreKindsBelow size visible.types) g
 
   turn_grows : (a b : Making Goal) → Growing a → Growing b → Growing (in_turn a b)
-  turn_grows a b p q g = then_grows g (a g) (λ left. b >>= (λ right. made (left, right))) (p g) (λ left k. then_grows k (b k) (λ right. made (left, right)) (q k) (λ right. made_grows (left, right)))
+  turn_grows a b p q g = then_grows g (a g) (λ left. b >>= (λ right. made (left, right))) (p g) (λ left k. then_grows k (b k) (λ right. made (left, right)) (q k) (λ right. made_grows {A = Goal × Goal} (left, right)))
 
   joined_grows : (join : Goal → Goal → Goal) (a b : Making Goal) → Growing a → Growing b → Growing (joined join a b)
   joined_grows join a b p q g = then_grows g (in_turn a b g) (λ both. made (join both.0 both.1)) (turn_grows a b p q g) (λ both. made_grows (join both.0 both.1))
@@ -76,8 +76,8 @@ module _ (stay : MeaningsStayInRange) (listings : ListingsStayInRange) (visible 
   test_grows : (ts : List Term) (m : TypeMeaning) → m ≡ element_type visible ts → Growing (list_test m ts)
   test_grows ts (type.One element) is g =
       then_grows g (list_name element g) (λ name. made (goal.Builtin (builtin.Belongs name) ts)) (list_name_grows ts element is g) (λ name. made_grows (goal.Builtin (builtin.Belongs name) ts))
-  test_grows ts type.Unknown is = made_grows goal.Fail
-  test_grows ts type.Several is = made_grows goal.Fail
+  test_grows ts type.Unknown is g = made_grows goal.Fail g
+  test_grows ts type.Several is g = made_grows goal.Fail g
 
   -- bodies
 

@@ -39,6 +39,12 @@ each_left P [] n d h lt = absurd (omega (arith, lt))
 each_left P (x ∷ xs) zero d h lt = h.0
 each_left P (x ∷ xs) (suc n) d h lt = each_left P xs n d h.1 (omega (arith, lt))
 
+-- what is so of what each gives is so of what the one at a place gives
+pub each_mapped : {A B : Type 0} (P : B → Type 0) (f : A → B) (xs : List A) (n : ℕ) (d : A) → AllByRecursion P (map f xs) → n < length xs → P (f (get_or xs n d))
+each_mapped P f [] n d h lt = absurd (omega (arith, lt))
+each_mapped P f (x ∷ xs) zero d h lt = h.0
+each_mapped P f (x ∷ xs) (suc n) d h lt = each_mapped P f xs n d h.1 (omega (arith, lt))
+
 -- lists in order
 
 module _ {A B : Type 0} (gives : Grammar → A → Option (Grammar × B)) where

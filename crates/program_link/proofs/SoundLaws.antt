@@ -46,7 +46,7 @@ each_map P f so (x ∷ xs) = (so x, each_map P f so xs)
 -- assertions without trouble have no first one
 no_least : (names : List Word) (seen : List Seen) (list : List Assertion) → AllByRecursion (λ a. trouble_of names seen a ≡ None) list → least_trouble names seen list ≡ None
 no_least names seen [] h = refl
-no_least names seen (a ∷ as) h = ap (λ t. least_from (sooner None (option_map (at_line a.line) t)) (map (troubled names seen) as)) h.0 ∙ no_least names seen as h.1
+no_least names seen (a ∷ rest) h = ap (λ t. least_from (sooner None (option_map (at_line a.line) t)) (map (troubled names seen) rest)) h.0 ∙ no_least names seen rest h.1
 
 module _ (names : List Word) (files : List File) (none : least (all_faults names files) ≡ None) where
   -- predicates of one file

@@ -8,7 +8,7 @@ mod entries;
 mod fault_order;
 mod faults;
 mod laws;
-mod link;
+mod linking;
 mod named_faults;
 mod normals;
 mod outcomes;
@@ -17,5 +17,5 @@ mod programs;
 mod sentence_faults;
 
 pub use laws::least_fault_law;
-pub use link::link;
+pub use linking::link;
 pub use outcomes::LinkFault;

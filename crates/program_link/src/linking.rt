@@ -7,7 +7,7 @@ ghost use Rattle.regtype_grammar.specs.Grammars.{grammar_of, IsTypeFault};
 ghost use Rattle.regtype_grammar.specs.TypeFaults.{refused};
 ghost use Rattle.unit_scopes.specs.Imports.{type_modules};
 ghost use Rattle.unit_scopes.specs.Sayings.{file_of};
-ghost use Rattle.unit_scopes.specs.Settings.{settings};
+ghost use Rattle.unit_scopes.specs.Settings.{settings as settings_of_files};
 ghost use Rattle.unit_scopes.specs.Sources.{AreSources};
 ghost use Rattle.program_link.specs.FaultOrder.{least, least_from};
 ghost use Rattle.program_link.specs.Faults.{all_faults, type_faults};
@@ -73,7 +73,7 @@ fn untyped(
     types: Option<Fault>,
 ) -> LinkFault
     requires sources { AreSources 0 0 (map file_of units.now) sources.now }
-    requires settings { settings.now ≡ settings (map file_of units.now) }
+    requires settings { settings.now ≡ settings_of_files (map file_of units.now) }
     requires types { least_from None (type_faults (refused (type_modules (map file_of units.now)))) ≡ types }
     requires full { least (all_faults names (map file_of units.now)) ≡ None → grammar_of (type_modules (map file_of units.now)) ≡ None }
     ensures { IsLinkFault names units.now result }
@@ -93,7 +93,7 @@ fn refused(
     fault: TypeFault,
 ) -> LinkFault
     requires sources { AreSources 0 0 (map file_of units.now) sources.now }
-    requires settings { settings.now ≡ settings (map file_of units.now) }
+    requires settings { settings.now ≡ settings_of_files (map file_of units.now) }
     requires told { IsTypeFault (type_modules (map file_of units.now)) fault }
     ensures { IsLinkFault names units.now result }
 {
@@ -117,7 +117,7 @@ fn typed(
     grammar: Grammar,
 ) -> Result<Program, LinkFault>
     requires sources { AreSources 0 0 (map file_of units.now) sources.now }
-    requires settings { settings.now ≡ settings (map file_of units.now) }
+    requires settings { settings.now ≡ settings_of_files (map file_of units.now) }
     requires types { refused (type_modules (map file_of units.now)) ≡ None }
     requires grammar { grammar_of (type_modules (map file_of units.now)) ≡ Some grammar }
     ensures linked { IfOk result (λ program. linked names units.now ≡ Linked program) }
