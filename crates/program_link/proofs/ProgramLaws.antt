@@ -65,18 +65,6 @@ module _ (files : List File) (sources : List Source) (are : AreSources 0 0 files
   exports_are n (p ∷ ps) = λ i. cond (main_same p i) (n ∷ []) [] ++ exports_are (suc n) ps i
 
   module _ (normals : List Normal) where
-    no_entries : (n m : ℕ) (ps : List UnitPred) → drop n normals ≡ [] → entries_held sources normals n ps ≡ []
-    no_entries n m [] e = refl
-    no_entries n m (p ∷ ps) e = by (slice_get normals n) (at_front normals n) (no_entries (suc n) m ps)
-      where
-        by : (o : Option Normal) → AtFront o (drop n normals) (drop (suc n) normals) → (drop (suc n) normals ≡ [] → entries_held sources normals (suc n) ps ≡ [])
-            → entries_by (is_main_held sources p) n o ++ entries_held sources normals (suc n) ps ≡ []
-        by None front rest = rest front.1
-        by (Some x) front rest = absurd (not_empty x (drop (suc n) normals) (sym front ∙ e))
-          where
-            not_empty : (x : Normal) (xs : List Normal) → x ∷ xs ≡ [] → ⊥
-            not_empty x xs e = cc
-
     entries_are : (n : ℕ) (ps : List UnitPred) → entries_held sources normals n ps ≡ entries_from files n (beside (map (draft_held sources) ps) (drop n normals))
     entries_are n [] = ap (entries_from files n) (nothing (drop n normals))
       where

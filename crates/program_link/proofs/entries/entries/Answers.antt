@@ -2,6 +2,7 @@ use Rattle.std.proofs.Common.{◌≡◌, suc, ◌+◌, ◌++◌, drop, get_or, a
 use Rattle.std.specs.Prelude.{slice_get}
 use Rattle.std.proofs.lemmas.List.{at_drop_more}
 use Rattle.program_link.specs.HeldPrograms.{is_main_held, entries_by, entries_held}
+use Rattle.program_link.specs.declared.drafts.UnitPred.{UnitPred}
 use Rattle.program_link.proofs.entries.entries.Goals as goal
 
 pub loop-number-preserved : goal.loop-number-preserved
@@ -10,7 +11,7 @@ loop-number-preserved c =
     let normals = c.args.normals.now in
     let preds = c.args.preds.now in
     let n = c.loop-number.number in
-    let none = record { unit = 0; indicator = record { name = 0; arity = 0 } } in
+    let none : UnitPred = record { unit = 0; indicator = record { name = 0; arity = 0 } } in
     let old = c.loop-number.entries in
     let own = entries_by (is_main_held sources (get_or preds n none)) n (slice_get normals n) in
     let same : n + 1 ≡ suc n = omega arith in
