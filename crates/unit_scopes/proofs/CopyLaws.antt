@@ -1,9 +1,11 @@
 -- Terms that are taken apart and put together down their last arguments.
-use Rattle.std.proofs.Common.{◌≡◌, ℕ, ◌-◌, List, [], ◌∷◌, ◌++◌, length, refl, ap, sym, ◌∙◌, length-append, arith}
+use Rattle.std.proofs.Common.{◌≡◌, ◌<◌, ◌≤◌, ℕ, zero, suc, ◌+◌, ◌-◌, List, [], ◌∷◌, ◌++◌, length, get_or, refl, ap, sym, ◌∙◌, length-append, arith}
 use Rattle.std.specs.Prelude.{slice_set}
 use Rattle.term_core.specs.declared.fixed.TheConstants.{NIL}
 use Rattle.term_core.specs.declared.terms.Term.{Term}
 use Rattle.term_core.specs.declared.terms.Term as term
+use Rattle.term_core.specs.Sizes.{size, size_all, size_step}
+use Rattle.term_core.proofs.TermFolds.{fold-Node}
 use Rattle.unit_scopes.specs.Copies.{closed, closed_all}
 use Rattle.unit_scopes.specs.declared.copies.Open.{Open}
 
@@ -27,3 +29,21 @@ closed_opened outer name front last whole e made =
 pub closed_all_append : (compounds : List Open) (outer : Open) (t : Term) → closed_all (compounds ++ outer ∷ []) t ≡ closed_all compounds (closed outer t)
 closed_all_append [] outer t = refl
 closed_all_append (o ∷ os) outer t = ap (closed o) (closed_all_append os outer t)
+
+-- sizes
+
+sizes_behind : (front : List Term) (last : Term) → size_all (front ++ last ∷ []) ≡ size_all front + size last
+sizes_behind [] last = omega arith
+sizes_behind (t ∷ ts) last = let rest = sizes_behind ts last in omega (arith, rest)
+
+-- a compound is larger than its last argument and the others together
+pub size_last : (t : Term) (name : ℕ) (front : List Term) (last : Term) → t ≡ term.Node name (front ++ last ∷ []) → size t ≡ (size_all front + size last) + 1
+size_last t name front last e =
+    let whole : size t ≡ size_all (front ++ last ∷ []) + 1 = ap size e ∙ fold-Node ℕ size_step name (front ++ last ∷ []) in
+    omega (arith, whole, sizes_behind front last)
+
+-- one of some terms is no larger than all
+pub size_among : (i : ℕ) (ts : List Term) (t : Term) → i < length ts → t ≡ get_or ts i t → size t ≤ size_all ts
+size_among i [] t lt e = absurd (omega (arith, lt))
+size_among zero (u ∷ ts) t lt e = omega (arith, ap size e)
+size_among (suc i) (u ∷ ts) t lt e = omega (arith, size_among i ts t (omega (arith, lt)) e)

@@ -1,9 +1,19 @@
 // What has clauses behind expansions, let go. Such a clause is as deep as it has calls: so it goes without recursion.
+use crate::copies::Open;
 use crate::sources::Source;
 use ciao_reader::Sentence;
 use regtype_grammar::{RegType, TypeModule};
 use sqlite_items::Items;
-use term_core::discard;
+use term_core::{Term, discard};
+
+/// Lets opened compounds go, however deep their arguments are.
+pub(crate) fn discard_opened(compounds: Items<Open>) {
+    let mut left = compounds;
+    while let Some(outer) = left.pop() {
+        let Open { name, parts } = outer;
+        discard(Term::Node(name, parts));
+    }
+}
 
 /// Lets sentences go, however deep they are.
 pub(crate) fn discard_sentences(sentences: &mut Items<Sentence>) {
