@@ -34,7 +34,7 @@ grouping_next count at xs k x old new lt e held has = record {
       ap (λ ns. ns ++ left) (has.each q (subst (λ n. q < n) (sym held.all) below))
       ∙ append_assoc (slice_index_or old q []) (cond (is_at q (at x)) (k ∷ []) []) left
       ∙ ap (λ ns. slice_index_or old q [] ++ ns) (ap (λ n. cond (is_at q (at x)) (k ∷ []) [] ++ places_of (λ y. is_at q (at y)) n (drop (k + 1) xs)) (sym same)
-          ∙ sym (turn (λ ys. places_of (λ y. is_at q (at y)) k ys) xs k x lt e))
+      ∙ sym (turn (λ ys. places_of (λ y. is_at q (at y)) k ys) xs k x lt e))
       ∙ held.each q below;
 }
 

@@ -86,7 +86,11 @@ pub(crate) fn assertion_groups(
 {
     let mut groups = empty_groups(alloc, defined.len())?;
     for (place, assertion) in assertions.iter().enumerate() {
-        add_place(&mut groups, assertion_place(defined, assertion), place as u64)?;
+        add_place(
+            &mut groups,
+            assertion_place(defined, assertion),
+            place as u64,
+        )?;
     }
     Ok(groups)
 }

@@ -78,11 +78,7 @@ fn exported_by_name(alloc: Global, exports: &[Export]) -> Result<IndexSet<Indica
 }
 
 // Adds the predicates that a list names of a unit.
-fn add_wanted(
-    wanted: &mut IndexSet<Wanted>,
-    unit: u64,
-    only: &[Export],
-) -> Result<(), NoMemory>
+fn add_wanted(wanted: &mut IndexSet<Wanted>, unit: u64, only: &[Export]) -> Result<(), NoMemory>
     ensures { OnOk result (wanted.new.keys ≡ wanted_behind wanted.old.keys unit only.now) }
 {
     for export in only {

@@ -107,11 +107,7 @@ pub(crate) fn source_of(
 }
 
 /// What is held of all units, in their order.
-pub fn sources_of(
-    alloc: Global,
-    names: &Names,
-    units: &[Unit],
-) -> Result<Items<Source>, NoMemory>
+pub fn sources_of(alloc: Global, names: &Names, units: &[Unit]) -> Result<Items<Source>, NoMemory>
     ensures { IfOk result (AreSources 0 0 (map file_of units.now)) }
 {
     let mut sources = Items::new(alloc);
