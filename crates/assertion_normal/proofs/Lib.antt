@@ -6,6 +6,7 @@ mod SettledLaws
 mod TurnLaws
 mod ConditionRanges
 mod NumberLaws
+mod NormalRanges
 mod TroubleLaws
 mod OwnTroubles
 mod GrowingRanges

@@ -5,6 +5,7 @@ use Rattle.std.specs.List.{list_all, AllByRecursion}
 use Rattle.prog_data.specs.declared.conditions.Prop.{Prop}
 use Rattle.prog_data.specs.declared.conditions.Cond.{Cond}
 use Rattle.prog_data.specs.declared.conditions.CondKind.{CondKind}
+use Rattle.prog_data.specs.declared.grammars.Grammar.{Grammar}
 use Rattle.prog_data.specs.declared.grammars.Seen.{Seen}
 use Rattle.prog_data.specs.declared.programs.Claim.{Claim}
 use Rattle.prog_data.specs.Conditions.{is_calls}
@@ -17,6 +18,8 @@ use Rattle.assertion_normal.specs.declared.troubles.Trouble.TheVariants as what
 use Rattle.assertion_normal.specs.declared.troubles.Troubled.{Troubled}
 use Rattle.assertion_normal.specs.Settling.{counts}
 use Rattle.assertion_normal.specs.Conditions.{numbers_from, normal_of}
+use Rattle.assertion_normal.specs.Normals.{normalised}
+use Rattle.assertion_normal.specs.Ranges.{IsGrown, StaysInRange}
 use Rattle.assertion_normal.specs.Troubles.{own_troubles, trouble_of, is_before, troubled, least_trouble}
 
 -- a condition is on the predicate, at a line of the file
@@ -68,3 +71,14 @@ abbrev pub RangesGrow : Type 0
 RangesGrow = (arity size more : ℕ) → size ≤ more →
     ((kind : CondKind) → is_kind_of arity size kind ≡ true → is_kind_of arity more kind ≡ true)
     × ((props : List Prop) → list_all (is_prop_of arity size) props ≡ true → list_all (is_prop_of arity more) props ≡ true)
+
+-- what assertions give is about their predicate, and in range, and the grammar behind it has grown by lists alone
+pub record IsNormalised (seen : List Seen) (old : Grammar) (file pred first : ℕ) (list : List Assertion) (made : Grammar × Normal) : Type 0 where
+  pub grown : IsGrown seen old made.0
+  pub of_predicate : IsOfPredicate file pred first made.1
+  pub range : StaysInRange seen old list made.0 made.1
+
+-- so it is of all assertions
+abbrev pub NormalsAreInRange : Type 0
+NormalsAreInRange = (names : List (List ℕ)) (file : ℕ) (seen : List Seen) (old : Grammar) (pred first : ℕ) (list : List Assertion) (made : Grammar × Normal)
+    → normalised names file seen old pred first list ≡ Some made → IsNormalised seen old file pred first list made

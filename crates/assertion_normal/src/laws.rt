@@ -1,5 +1,7 @@
 // What is true of all that assertions give.
-ghost use Rattle.assertion_normal.specs.Laws.{ConditionsAreNumbered, OwnTroubleIsTold, TroublesAreFound, RangesGrow};
+ghost use Rattle.assertion_normal.specs.Laws.{ConditionsAreNumbered, OwnTroubleIsTold, TroublesAreFound, RangesGrow, NormalsAreInRange};
+
+use regtype_grammar::{listings_in_range_law, meanings_law};
 
 /// What assertions give is about their predicate: its conditions are numbered one after the other, and none but the first is one on calls.
 pub fn conditions_law()
@@ -20,3 +22,11 @@ pub fn troubles_law()
 pub fn ranges_grow_law()
     ensures { RangesGrow }
 {}
+
+/// What assertions give is about their predicate, and in range, and the grammar behind it stays in range.
+pub fn normals_in_range_law()
+    ensures { NormalsAreInRange }
+{
+    meanings_law();
+    listings_in_range_law();
+}

@@ -10,7 +10,9 @@ mod properties;
 mod settling;
 mod troubles;
 
-pub use laws::{conditions_law, own_trouble_law, ranges_grow_law, troubles_law};
+pub use laws::{
+    conditions_law, normals_in_range_law, own_trouble_law, ranges_grow_law, troubles_law,
+};
 pub use normalising::normalise;
 pub use outcomes::{Normal, NormalFault};
 pub use troubles::{Trouble, assertion_trouble};

@@ -6,6 +6,7 @@ use Rattle.ciao_reader.specs.Ranges.{IsSentenceInRange}
 use Rattle.ciao_reader.specs.declared.sentences.Sentence.{Sentence}
 use Rattle.assertion_read.specs.declared.assertions.Written.{Written}
 use Rattle.assertion_read.specs.declared.assertions.Assertion.{Assertion}
+use Rattle.assertion_read.specs.Readings.{assertion_of}
 
 -- a property of one of so many arguments, whose names are below a number
 pub record IsPropertyInRange (names arity : ℕ) (w : Written) : Type 0 where
@@ -23,3 +24,7 @@ pub record IsAssertionInRange (names : ℕ) (a : Assertion) : Type 0 where
 -- the assertion of a sentence in range of so many names is in range of them
 abbrev pub StaysInRange : Sentence → Assertion → Type 0
 StaysInRange sentence assertion = (names : ℕ) → IsSentenceInRange names sentence → IsAssertionInRange names assertion
+
+-- so is the assertion that is computed of it
+abbrev pub AssertionsStayInRange : Type 0
+AssertionsStayInRange = (sentence : Sentence) (assertion : Assertion) → assertion_of sentence ≡ Some assertion → StaysInRange sentence assertion

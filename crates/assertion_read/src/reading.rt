@@ -3,7 +3,7 @@ ghost use Rattle.std.specs.Prelude.{◌≡◌, Some, option_copied, IfOk, IfErr}
 ghost use Rattle.assertion_read.specs.Parts.{asserted, fields_of, with_comp, with_pre, with_post};
 ghost use Rattle.assertion_read.specs.Readings.{assembled, about_head, of_fields, of_asserted, fields_are, kind_of, assertion_of};
 ghost use Rattle.assertion_read.specs.Heads.{head_at};
-ghost use Rattle.assertion_read.specs.Ranges.{StaysInRange};
+ghost use Rattle.assertion_read.specs.Ranges.{StaysInRange, AssertionsStayInRange};
 ghost use Rattle.assertion_read.specs.Written.{IsAssertion, IsNoAssertion, AssertionsAreWritten};
 
 use crate::heads::{Head, head_of};
@@ -142,3 +142,10 @@ pub fn read_assertion(
 pub fn assertion_law()
     ensures { AssertionsAreWritten }
 {}
+
+/// The assertion of a sentence in range is in range of the same names.
+pub fn assertions_in_range_law()
+    ensures { AssertionsStayInRange }
+{
+    assertion_law();
+}

@@ -26,7 +26,7 @@ use Rattle.body_code.specs.declared.faults.Indicator.{Indicator}
 use Rattle.body_code.specs.declared.scopes.Visible.{Visible}
 use Rattle.body_code.specs.Making.{made, followed}
 use Rattle.body_code.specs.Clauses.{may_be_head, indicator_where, indicator_at, head_of, body_term, indicator_of, body_goal, clause_with, compiled_with, compiled}
-use Rattle.body_code.specs.Ranges.{HasAllOf, IsClauseOf, StaysInRange}
+use Rattle.body_code.specs.Ranges.{HasAllOf, IsClauseOf, StaysInRange, HeadsAreInRange}
 use Rattle.body_code.proofs.TermRanges.{is_less, atom_name, compound_name, compound_parts, compound_length, SplitIn, split_in}
 use Rattle.body_code.proofs.GoalRanges.{IsGoal, MadeIn, terms_pass, body_in}
 
@@ -75,30 +75,38 @@ module _ (program : Program) (vars : ℕ) where
 -- heads in range
 
 -- what a head in range tells: its name, its arguments and their number
-record HeadIn (program : Program) (vars : ℕ) (indicator : Indicator) (args : List Term) : Type 0 where
-  name : indicator.name < length program.names
+record HeadIn (names vars : ℕ) (indicator : Indicator) (args : List Term) : Type 0 where
+  name : indicator.name < names
   arity : indicator.arity ≡ length args
   few : length args ≤ 255
-  terms : AllByRecursion (IsInRange (length program.names) vars) args
+  terms : AllByRecursion (IsInRange names vars) args
 
-module _ (program : Program) (vars : ℕ) where
+module _ (names vars : ℕ) where
   where_in : (b : Bool) (name arity : ℕ) (i : Indicator) → indicator_where b name arity ≡ Some i → record { name = name; arity = arity } ≡ i
   where_in true name arity i e = same_Some _ _ e
   where_in false name arity i e = absurd (none-some _ e)
 
-  head_in : (t : Term) (i : Indicator) → IsInRange (length program.names) vars t → indicator_at (out-Term t) ≡ Some i → HeadIn program vars i (parts_of (out-Term t))
+  head_in : (t : Term) (i : Indicator) → IsInRange names vars t → indicator_at (out-Term t) ≡ Some i → HeadIn names vars i (parts_of (out-Term t))
   head_in t i is e = by (out-Term t) (roll-out-Term t) e
     where
-      by : (x : layer.Term-F Term) → roll-Term x ≡ t → indicator_at x ≡ Some i → HeadIn program vars i (parts_of x)
+      by : (x : layer.Term-F Term) → roll-Term x ≡ t → indicator_at x ≡ Some i → HeadIn names vars i (parts_of x)
       by (layer.Var v) r e' = absurd (none-some _ e')
       by (layer.Int n) r e' = absurd (none-some _ e')
       by (layer.Atom a) r e' =
-          subst (λ j. HeadIn program vars j []) (where_in (may_be_head a 0) a 0 i e')
-          (record { name = atom_name (length program.names) vars a (subst (IsInRange (length program.names) vars) (sym r ∙ rolls-Atom a) is); arity = refl; few = omega arith; terms = tt })
+          subst (λ j. HeadIn names vars j []) (where_in (may_be_head a 0) a 0 i e')
+          (record { name = atom_name names vars a (subst (IsInRange names vars) (sym r ∙ rolls-Atom a) is); arity = refl; few = omega arith; terms = tt })
       by (layer.Node f ts) r e' =
-          let whole = subst (IsInRange (length program.names) vars) (sym r ∙ rolls-Node f ts) is in
-          subst (λ j. HeadIn program vars j ts) (where_in (may_be_head f (length ts)) f (length ts) i e')
-          (record { name = compound_name (length program.names) vars f ts whole; arity = refl; few = compound_length (length program.names) vars f ts whole; terms = compound_parts (length program.names) vars f ts whole })
+          let whole = subst (IsInRange names vars) (sym r ∙ rolls-Node f ts) is in
+          subst (λ j. HeadIn names vars j ts) (where_in (may_be_head f (length ts)) f (length ts) i e')
+          (record { name = compound_name names vars f ts whole; arity = refl; few = compound_length names vars f ts whole; terms = compound_parts names vars f ts whole })
+
+-- the name of a head and its number of arguments
+pub heads_in : HeadsAreInRange
+heads_in names s p h e =
+    let head = head_in names s.vars (head_of s.term) p (split_in names s.vars NECK s.term h).0 e in
+    let few : length (parts_of (out-Term (head_of s.term))) ≤ 255 = head.few in
+    let arity : p.arity ≡ length (parts_of (out-Term (head_of s.term))) = head.arity in
+    (head.name, omega (arith, few, arity))
 
 is_equal : (n m : ℕ) → n ≡ m → (n == m) ≡ true
 is_equal n m e = grind (arith, nat_tests)
@@ -110,7 +118,7 @@ module _ (visible : Visible) (file : ℕ) (s : Sentence) (old new : Grammar) (c 
     sides = split_in (length program.names) s.vars NECK s.term has.sentence
 
     -- the clause of a head and a goal in range
-    clause_in : (i : Indicator) (body : Goal) → HeadIn program s.vars i (parts_of (out-Term (head_of s.term))) → IsGoal program visible s.vars has.preds body → IsClauseOf program (clause_with file s i body)
+    clause_in : (i : Indicator) (body : Goal) → HeadIn (length program.names) s.vars i (parts_of (out-Term (head_of s.term))) → IsGoal program visible s.vars has.preds body → IsClauseOf program (clause_with file s i body)
     clause_in i body head goals =
         let args = parts_of (out-Term (head_of s.term)) in
         let whole = goal_is_body program s.vars body goals in
@@ -137,7 +145,7 @@ module _ (visible : Visible) (file : ℕ) (s : Sentence) (old new : Grammar) (c 
         let same = same_Some _ _ e' in
         let within : length made.1.rules ≤ length program.grammar.rules = subst (λ g. length g.rules ≤ length program.grammar.rules) (sym (ap (λ r. r.1) same)) has.types in
         subst (IsClauseOf program) (ap (λ r. r.0) same)
-        (clause_in i made.0 (head_in program s.vars (head_of s.term) i sides.0 e) (m.1 within))
+        (clause_in i made.0 (head_in (length program.names) s.vars (head_of s.term) i sides.0 e) (m.1 within))
 
   compiled_in : (o : Option Indicator) → indicator_of s.term ≡ o → compiled_with visible file s o old ≡ Some (c, new) → StaysInRange visible s file new c
   compiled_in None e e' = absurd (none-some _ e')

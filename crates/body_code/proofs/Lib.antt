@@ -6,6 +6,7 @@ mod TermRanges
 mod ListNames
 mod TableRows
 mod GoalRanges
+mod BodyGrows
 mod ClauseRanges
 mod ConjunctionLaws
 mod Measures

@@ -1,6 +1,6 @@
 -- Clauses and grammars stay in range.
 -- The headline does not rest on this file.
-use Rattle.std.specs.Prelude.{◌≡◌, ◌<◌, ◌≤◌, ℕ, true, false, List, length}
+use Rattle.std.specs.Prelude.{◌≡◌, ◌<◌, ◌≤◌, ℕ, true, false, List, length, Some}
 use Rattle.std.specs.List.{AllByRecursion}
 use Rattle.term_core.specs.Lists.{IsPrefix}
 use Rattle.term_core.specs.Shapes.{greatest_arity}
@@ -14,8 +14,10 @@ use Rattle.prog_data.specs.Ranges.{is_name_of, is_clause_of}
 use Rattle.regtype_grammar.specs.RuleNames.{RulesStayNamed}
 use Rattle.regtype_grammar.specs.TypeNames.{AreKindsBelow}
 use Rattle.body_code.specs.declared.faults.Compiled.{Compiled}
+use Rattle.body_code.specs.declared.faults.Indicator.{Indicator}
 use Rattle.body_code.specs.declared.scopes.Named.{Named}
 use Rattle.body_code.specs.declared.scopes.Visible.{Visible}
+use Rattle.body_code.specs.Clauses.{indicator_of, compiled}
 
 -- a grammar behind a call, whatever that answers: the old rules begin it, and it stays in range where types that are among so many names are asked for
 pub record GrowsFor (are_below : ℕ → Type 0) (old new : Grammar) : Type 0 where
@@ -48,3 +50,11 @@ pub record IsClauseOf (program : Program) (c : Compiled) : Type 0 where
 -- what a sentence becomes is in range of each program that has what it may speak of
 abbrev pub StaysInRange : Visible → Sentence → ℕ → Grammar → Compiled → Type 0
 StaysInRange visible s file new c = (program : Program) → HasAllOf program visible s file new → IsClauseOf program c
+
+-- the name of a head in range is one of the names, and its arguments are few
+abbrev pub HeadsAreInRange : Type 0
+HeadsAreInRange = (names : ℕ) (s : Sentence) (p : Indicator) → IsSentenceInRange names s → indicator_of s.term ≡ Some p → (p.name < names) × (p.arity ≤ greatest_arity)
+
+-- a clause is in range of each program that has what its sentence may speak of, and the grammar behind it has grown
+abbrev pub ClausesAreInRange : Type 0
+ClausesAreInRange = (visible : Visible) (file : ℕ) (s : Sentence) (old : Grammar) (made : Compiled × Grammar) → compiled visible file s old ≡ Some made → Grows visible old made.1 × StaysInRange visible s file made.1 made.0

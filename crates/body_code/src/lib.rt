@@ -13,5 +13,5 @@ mod scopes;
 pub use clauses::{clause_indicator, clause_problem};
 pub use compiling::compile_clause;
 pub use faults::{BodyFault, Compiled, Indicator, Problem};
-pub use laws::{bodies_law, problems_law};
+pub use laws::{bodies_law, compiled_in_range_law, problems_law};
 pub use scopes::{Callee, Named, Scope, Visible};

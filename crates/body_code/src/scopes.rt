@@ -104,6 +104,13 @@ impl Scope {
         Ok(Scope { visible, index })
     }
 
+    /// The types that are seen.
+    pub fn types(&self) -> &[Seen]
+        ensures { result.now ≡ self.now.types }
+    {
+        self.visible.types.as_slice()
+    }
+
     /// What a name with so many arguments means as a predicate.
     pub fn callee(&self, name: u64, arity: u64) -> Callee
         ensures { result ≡ callee_of self.now name arity }

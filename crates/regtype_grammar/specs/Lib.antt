@@ -8,3 +8,4 @@ pub mod TermRules
 pub mod Grammars
 pub mod TypeTerms
 pub mod RuleNames
+pub mod Ranges

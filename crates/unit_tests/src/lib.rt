@@ -1,10 +1,12 @@
-//! Assertions and their conditions, expansions, arithmetic and properties: what no clause says.
+//! Assertions and their conditions, sets of files, expansions, arithmetic and properties: what no clause says.
 #![tactic(auto)]
 
 #[cfg(test)]
 mod arithmetic;
 #[cfg(test)]
 mod assertions;
+#[cfg(test)]
+mod file_sets;
 #[cfg(test)]
 mod functions;
 #[cfg(test)]

@@ -1,0 +1,10 @@
+mod CopyLaws
+mod FileRanges
+mod GroupLaws
+mod HeldLaws
+mod IndexLaws
+mod NumberLaws
+mod PlaceLaws
+mod ReadLaws
+mod SeenLaws
+mod SourceLaws

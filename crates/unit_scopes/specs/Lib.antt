@@ -1,0 +1,12 @@
+pub mod SourceLaws
+pub mod Indicators
+pub mod Sayings
+pub mod Numbering
+pub mod Imports
+pub mod Settings
+pub mod Groups
+pub mod Sources
+pub mod Copies
+pub mod Held
+pub mod Laws
+pub mod Ranges
