@@ -125,11 +125,7 @@ fn add_opened(
 
 // Adds the compounds down the last arguments of a term, and gives what stands in the last of them.
 #[cycle(copying)]
-fn add_all_opened(
-    alloc: Global,
-    compounds: &mut Items<Open>,
-    term: &Term,
-) -> Result<Term, NoMemory>
+fn add_all_opened(alloc: Global, compounds: &mut Items<Open>, term: &Term) -> Result<Term, NoMemory>
     ensures { IfOk result (λ leaf. closed_all compounds.new leaf ≡ closed_all compounds.old term.now) }
 {
     let mut here = term;

@@ -21,9 +21,9 @@ add_all_opened-loop-name-preserved t c =
     let whole : size c.loop-name.here.now ≡ (size_all c.in-Some.front.now + size c.in-Some.last.now) + 1 = size_last c.loop-name.here.now c.in-Some.name c.in-Some.front.now c.in-Some.last.now c.in-Some.ensures in
     let within : size c.loop-name.here.now ≤ size c.args.term.now = c.loop-name.invariant.1 in (
       ap (λ outers. closed_all outers c.in-Some.last.now) c.in_ok-add_opened.ensures
-      ∙ closed_all_append c.loop-name.compounds _ c.in-Some.last.now
-      ∙ ap (closed_all c.loop-name.compounds) (closed_opened _ c.in-Some.name c.in-Some.front.now c.in-Some.last.now c.loop-name.here.now refl c.in-Some.ensures)
-      ∙ c.loop-name.invariant.0,
+          ∙ closed_all_append c.loop-name.compounds _ c.in-Some.last.now
+          ∙ ap (closed_all c.loop-name.compounds) (closed_opened _ c.in-Some.name c.in-Some.front.now c.in-Some.last.now c.loop-name.here.now refl c.in-Some.ensures)
+          ∙ c.loop-name.invariant.0,
       omega (arith, whole, within),
     )
 
