@@ -1,0 +1,4 @@
+mod AtomsBound
+mod Moments
+mod RowLaws
+mod Truths

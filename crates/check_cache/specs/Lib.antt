@@ -1,0 +1,4 @@
+pub mod Checked
+pub mod Remembered
+pub mod Rows
+pub mod Truth
