@@ -3,25 +3,33 @@ use Rattle.std.specs.Prelude.{◌≡◌, ◌⊎◌, ℕ, ◌<◌, ◌≤◌, Lis
 use Rattle.std.specs.List.{IsDistinct}
 use Rattle.byte_io.specs.Outside.{Held, FileRead, Rose, grown}
 use Rattle.term_core.specs.Names.{fixed_names}
+use Rattle.term_core.specs.declared.operators.Operators.{Operators}
 use Rattle.term_core.specs.declared.terms.Term.{Term}
 use Rattle.prog_data.specs.declared.programs.Program.{Program}
 use Rattle.ciao_modules.specs.FileNames.{Word, folder_of}
 use Rattle.ciao_modules.specs.LoadReads.{Agree, AreLoadReads, IsLastFailed}
 use Rattle.ciao_modules.specs.declared.units.Unit.{Unit}
 use Rattle.ciao_modules.specs.declared.units.LoadFault.{LoadFault}
-use Rattle.ciao_top.specs.WordsAccepted.{RunWords, AcceptedWords}
+use Rattle.ciao_top.specs.WordsAccepted.{RunWords, GenerateWords, RunQuery, CheckFile, GenerateModule, AcceptedWords, file_read_for}
 use Rattle.ciao_top.specs.declared.stops.Reason.{Reason}
 use Rattle.ciao_top.specs.Queries.{MeetsEntry}
-use Rattle.ciao_top.specs.FileSets.{HasQuery, IsReached}
+use Rattle.ciao_top.specs.FileSets.{HasProgram, HasQuery, IsReached, generated_files, generated_run}
 use Rattle.ciao_top.specs.Refused.{Refuses}
 use Rattle.ciao_top.specs.Limits.{RunAnswers}
+use Rattle.ciao_top.specs.Reports.{ReportAnswers}
+use Rattle.ciao_top.specs.Summaries.{SummaryAnswers}
 use Rattle.ciao_top.specs.Lines.{reason_text, reason_status, read_fault}
 
 -- Defined: the text and the status for these files and words. It knows of no call and no fault of a device.
 pub data Defined (held : Held) (words : List Word) (text : Word) (status : ℕ) : Type 0 where
   Refused : (why : Reason) → Refuses held words why → text ≡ reason_text why → status ≡ reason_status why → Defined held words text status
-  Runs : (command : RunWords) → AcceptedWords words ≡ Some command → (program : Program) (query : Term) → HasQuery held command program query → MeetsEntry program query
-      → RunAnswers program query command.steps command.answers text status → Defined held words text status
+  Runs : (run : RunWords) → AcceptedWords words ≡ Some (RunQuery run) → (program : Program) (query : Term) → HasQuery held run program query → MeetsEntry program query
+      → RunAnswers program query run.steps run.answers text status → Defined held words text status
+  Reports : (file : Word) → AcceptedWords words ≡ Some (CheckFile file) → (program : Program) (ops : Operators) → HasProgram held file program ops
+      → ReportAnswers program text status → Defined held words text status
+  Summarises : (made : GenerateWords) → AcceptedWords words ≡ Some (GenerateModule made) → (program : Program) (query : Term)
+      → HasQuery (generated_files made) (generated_run made) program query → MeetsEntry program query
+      → SummaryAnswers made program query text status → Defined held words text status
 
 -- what the files and the sink tell of a call
 
@@ -40,16 +48,16 @@ with_piece old piece = record { written = grown old.written piece; taken = old.t
 
 -- the reads of a call for these words: none, or those of the load of the main file, in its order and up to where it ends, for all files that agree with them
 pub data ReadsOnly (words : List Word) (reads : List FileRead) : Type 0 where
-  Nothing : AcceptedWords words ≡ None → reads ≡ [] → ReadsOnly words reads
-  OfLoad : (command : RunWords) → AcceptedWords words ≡ Some command
-      → ((files : Held) → Agree reads files → (result : Result (List Unit) LoadFault) × AreLoadReads files command.file fixed_names result reads) → ReadsOnly words reads
+  Nothing : file_read_for words ≡ None → reads ≡ [] → ReadsOnly words reads
+  OfLoad : (main : Word) → file_read_for words ≡ Some main
+      → ((files : Held) → Agree reads files → (result : Result (List Unit) LoadFault) × AreLoadReads files main fixed_names result reads) → ReadsOnly words reads
 
 -- the file of this name could not be read: the last of the reads is of it and failed, and in all files that agree with the reads it is reached
 pub record IsUnread (words : List Word) (reads : List FileRead) (name : Word) : Type 0 where
-  pub command : RunWords
-  pub accepted : AcceptedWords words ≡ Some command
-  pub last : IsLastFailed (folder_of command.file ++ name) reads
-  pub reached : (files : Held) → Agree reads files → IsReached files command name
+  pub main : Word
+  pub accepted : file_read_for words ≡ Some main
+  pub last : IsLastFailed (folder_of main ++ name) reads
+  pub reached : (files : Held) → Agree reads files → IsReached files main name
 
 -- one text begins another
 abbrev pub IsPrefix : Word → Word → Type 0

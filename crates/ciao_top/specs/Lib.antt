@@ -6,6 +6,8 @@ pub mod Limits
 pub mod Queries
 pub mod FileSets
 pub mod Refused
+pub mod Reports
+pub mod Summaries
 pub mod Lines
 pub mod Answers
 pub mod Relied

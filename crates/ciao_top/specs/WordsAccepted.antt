@@ -1,15 +1,20 @@
 -- The words of the command line that are accepted.
-use Rattle.std.specs.Prelude.{ℕ, Bool, true, false, ◌&&◌, List, [], ◌∷◌, nat_le, Option, Some, None, option_map, if◌then◌else◌, bytes_eq}
+use Rattle.std.specs.Prelude.{ℕ, ◌-◌, ◌^◌, Bool, true, false, ◌&&◌, List, [], ◌∷◌, nat_le, Option, Some, None, option_map, is_some, if◌then◌else◌, bytes_eq}
 use Rattle.std.specs.Option.{option_and_then}
 use Rattle.ciao_modules.specs.FileNames.{Word, is_main_file}
 use Rattle.ciao_top.specs.Words.{number_of}
-use Rattle.ciao_top.specs.WordsTable.{WordKind, MainFile, AnyText, OptionRow, CommandRow, command_table, row_named}
+use Rattle.ciao_top.specs.WordsTable.{CommandName, Run, Check, Generate, WordKind, MainFile, AnyText, Number, OptionRow, CommandRow, most_generated, command_table, row_named}
 use Rattle.ciao_top.specs.WordsCut.{GivenOption, WordParts, no_parts, cut_words}
+
+-- the number that a word is, from the one to the other
+abbrev pub number_between : ℕ → ℕ → Word → Option ℕ
+number_between least most word = option_and_then (λ n. if nat_le least n then Some n else None) (number_of most word)
 
 -- whether a word is of a kind
 abbrev pub is_of_kind : WordKind → Word → Bool
 is_of_kind MainFile word = is_main_file word
 is_of_kind AnyText word = true
+is_of_kind (Number least most) word = is_some (number_between least most word)
 
 -- as many words as kinds, each of its kind
 abbrev pub are_of_kinds : List WordKind → List Word → Bool
@@ -25,7 +30,7 @@ values_of name (option ∷ given) = if bytes_eq option.name name then option.val
 
 -- the number that a word is, within the limits of an option
 abbrev pub number_within : OptionRow → Word → Option ℕ
-number_within row word = option_and_then (λ n. if nat_le row.least n then Some n else None) (number_of row.most word)
+number_within row word = number_between row.least row.most word
 
 -- the number of an option that has these values: it stands at most once, and once where it is needed; the inner None is an option that does not stand
 abbrev pub number_for : OptionRow → List Word → Option (Option ℕ)
@@ -61,20 +66,59 @@ pub record RunWords : Type 0 where
   pub steps : ℕ
   pub answers : Option ℕ
 
+-- a generated module: its number and how many predicates it has, with the bound of its run
+pub record GenerateWords : Type 0 where
+  pub number : ℕ
+  pub count : ℕ
+  pub steps : ℕ
+
+-- a command with its words
+pub data Command : Type 0 where
+  RunQuery : RunWords → Command
+  CheckFile : Word → Command
+  GenerateModule : GenerateWords → Command
+
 -- the run of a file and a query, with a bound and perhaps an answer limit
 abbrev pub run_with : List Word → List (Option ℕ) → Option RunWords
 run_with (file ∷ query ∷ []) (Some steps ∷ answers ∷ []) = Some (record { file = file; query = query; steps = steps; answers = answers })
 run_with words numbers = None
 
--- the run that accepted words are
-abbrev pub run_of : AcceptedParts → Option RunWords
-run_of accepted = run_with accepted.words accepted.numbers
+-- the check of a file
+abbrev pub check_with : List Word → Option Word
+check_with (file ∷ []) = Some file
+check_with words = None
 
--- the run that the words behind a command are, where its row accepts them
-abbrev pub run_by : List Word → CommandRow → Option RunWords
-run_by words row = option_and_then run_of (accepted_by words row)
+-- the generated module with these numbers, where there are both
+abbrev pub generate_numbered : ℕ → Option ℕ → Option ℕ → Option GenerateWords
+generate_numbered steps (Some number) (Some count) = Some (record { number = number; count = count; steps = steps })
+generate_numbered steps number count = None
+
+-- the generated module of two numbers, with the bound of its run
+abbrev pub generate_with : List Word → List (Option ℕ) → Option GenerateWords
+generate_with (number ∷ count ∷ []) (Some steps ∷ []) = generate_numbered steps (number_between 0 (2 ^ 63 - 1) number) (number_between 1 most_generated count)
+generate_with words numbers = None
+
+-- the command that accepted words are
+abbrev pub command_of : CommandName → AcceptedParts → Option Command
+command_of Run accepted = option_map RunQuery (run_with accepted.words accepted.numbers)
+command_of Check accepted = option_map CheckFile (check_with accepted.words)
+command_of Generate accepted = option_map GenerateModule (generate_with accepted.words accepted.numbers)
+
+-- the command that the words behind its own are, where its row accepts them
+abbrev pub command_by : List Word → CommandRow → Option Command
+command_by words row = option_and_then (command_of row.command) (accepted_by words row)
 
 -- the command of the words, none where they are not accepted: the first word is a command of the table, whose row accepts the others
-abbrev pub AcceptedWords : List Word → Option RunWords
+abbrev pub AcceptedWords : List Word → Option Command
 AcceptedWords [] = None
-AcceptedWords (name ∷ words) = option_and_then (run_by words) (row_named command_table name)
+AcceptedWords (name ∷ words) = option_and_then (command_by words) (row_named command_table name)
+
+-- the main file of a command; that of a generated module is not read
+abbrev pub read_by : Command → Option Word
+read_by (RunQuery run) = Some run.file
+read_by (CheckFile file) = Some file
+read_by (GenerateModule made) = None
+
+-- the main file that is read for words, none where they are not accepted
+abbrev pub file_read_for : List Word → Option Word
+file_read_for words = option_and_then read_by (AcceptedWords words)
