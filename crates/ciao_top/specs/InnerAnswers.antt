@@ -20,29 +20,50 @@ use Rattle.machine_model.specs.Tests.{every_condition}
 use Rattle.machine_model.specs.Continues.{Left, Continues, Leads}
 use Rattle.run_report.specs.Refusals.{refusal_text}
 use Rattle.run_report.specs.RunText.{ending_status}
-use Rattle.ciao_modules.specs.FileNames.{Word, folder_of}
+use Rattle.ciao_modules.specs.FileNames.{Word, folder_of, is_main_file}
+use Rattle.ciao_modules.specs.Loaded.{Loaded}
 use Rattle.ciao_modules.specs.LoadReads.{Agree, new_reads, AreLoadReads, IsLastFailed}
 use Rattle.ciao_modules.specs.declared.units.Unit.{Unit}
 use Rattle.ciao_modules.specs.declared.units.LoadFault.{LoadFault}
 use Rattle.ciao_modules.specs.declared.units.LoadFault.TheVariants as load
 use Rattle.program_link.specs.Linked as link
-use Rattle.ciao_top.specs.WordsAccepted.{RunWords}
+use Rattle.ciao_top.specs.WordsTable.{most_generated}
+use Rattle.ciao_top.specs.WordsAccepted.{RunWords, GenerateWords, Command, RunQuery, CheckFile, GenerateModule, read_by}
 use Rattle.ciao_top.specs.declared.words.RunCommand.{RunCommand}
+use Rattle.ciao_top.specs.declared.words.GenerateCommand.{GenerateCommand}
+use Rattle.ciao_top.specs.declared.words.Command as command_code
+use Rattle.ciao_top.specs.declared.words.Command.TheVariants as command_held
 use Rattle.ciao_top.specs.declared.runs.Following.{Following}
 use Rattle.ciao_top.specs.declared.runs.Following.TheVariants as following
 use Rattle.ciao_top.specs.declared.stops.Reason.{Reason}
 use Rattle.ciao_top.specs.declared.stops.Reason.TheVariants as reason
 use Rattle.ciao_top.specs.declared.stops.Stop.{Stop}
 use Rattle.ciao_top.specs.declared.stops.Stop.TheVariants as stop
-use Rattle.ciao_top.specs.FileSets.{IsReached}
+use Rattle.ciao_top.specs.FileSets.{HasProgram, IsReached}
 use Rattle.ciao_top.specs.Limits.{LimitedText, limited_status}
 use Rattle.ciao_top.specs.Queries.{main_operators, IsQuery, query_meets_entry}
 use Rattle.ciao_top.specs.Refused.{CommandRefused}
 use Rattle.ciao_top.specs.Answers.{IsPrefix, Output, with_piece}
 
--- a command as the code has it
+-- a run as the code has it
 abbrev pub run_words : RunCommand → RunWords
-run_words command = record { file = command.file.now; query = command.query.now; steps = command.steps; answers = command.answers }
+run_words run = record { file = run.file.now; query = run.query.now; steps = run.steps; answers = run.answers }
+
+-- a generated module as the code has it
+abbrev pub generate_words : GenerateCommand → GenerateWords
+generate_words made = record { number = made.number; count = made.count; steps = made.steps }
+
+-- a command as the code has it
+abbrev pub command_seen : command_code.Command → Command
+command_seen (command_held.Run run) = RunQuery (run_words run)
+command_seen (command_held.Check file) = CheckFile file.now
+command_seen (command_held.Generate made) = GenerateModule (generate_words made)
+
+-- a command whose main file has the form of one, or whose module has not too many predicates
+abbrev pub IsAllowed : command_code.Command → Type 0
+IsAllowed (command_held.Run run) = is_main_file run.file.now ≡ true
+IsAllowed (command_held.Check file) = is_main_file file.now ≡ true
+IsAllowed (command_held.Generate made) = made.count ≤ most_generated
 
 -- a sink, or the files, go on: the count of faults did not fall, and it is as before where no call fails but for want of memory
 pub record DeviceGoesOn (was is : Bool) (before now : ℕ) : Type 0 where
@@ -113,11 +134,11 @@ pub record HasQueryIn (names : List Word) (units : List Unit) (text : Word) (pro
 abbrev pub UnitStops : List Word → List Unit → Word → Stop → Type 0
 UnitStops names units text s = LinkStops names units s ⊎ ((before : Program) × (link.linked names units ≡ link.Linked before) × QueryStops before (main_operators units) text s)
 
--- why a command is not run: for all files that agree with the reads it is refused so, or a read failed
-abbrev pub Stops : RunWords → List FileRead → Type 0 → Stop → Type 0
+-- why a command is not carried out: for all files that agree with the reads it is refused so, or a read failed
+abbrev pub Stops : Command → List FileRead → Type 0 → Stop → Type 0
 Stops command reads reading (stop.Refused why) = (files : Held) → Agree reads files → CommandRefused files command why
 Stops command reads reading (stop.Unreadable name) =
-    reading × IsLastFailed (folder_of command.file ++ name) reads × ((files : Held) → Agree reads files → IsReached files command name)
+    reading × ((main : Word) × (read_by command ≡ Some main) × IsLastFailed (folder_of main ++ name) reads × ((files : Held) → Agree reads files → IsReached files main name))
 Stops command reads reading stop.NoMemory = ⊤
 
 -- a program with a query, in range and as the linker makes it
@@ -126,10 +147,18 @@ pub record IsPrepared (program : Program) (query : Term) : Type 0 where
   pub linked : programs.IsLinked program
   pub named : has_names (length program.names) query ≡ true
 
--- the reads of a command: those of its load, no two of one file, with which some files agree, and those that are told
-pub record CommandReads (held : Option Held) (command : RunWords) (old new : List FileRead) : Type 0 where
+-- units that are loaded from this main file, for all files that agree with the reads
+abbrev pub AreLoaded : List FileRead → Word → List Word → List Unit → Type 0
+AreLoaded reads main names units = (files : Held) → Agree reads files → Loaded files main fixed_names names units
+
+-- the files that are reached from this main file have this program, for all files that agree with the reads
+abbrev pub IsProgramOf : List FileRead → Word → Program → Type 0
+IsProgramOf reads main program = (ops : Operators) × ((files : Held) → Agree reads files → HasProgram files main program ops)
+
+-- the reads of the load of a main file: no two of one file, with which some files agree, and those that are told
+pub record CommandReads (held : Option Held) (main : Word) (old new : List FileRead) : Type 0 where
   pub follow : new ≡ old ++ new_reads old new
-  pub order : (files : Held) → Agree (new_reads old new) files → (result : Result (List Unit) LoadFault) × AreLoadReads files command.file fixed_names result (new_reads old new)
+  pub order : (files : Held) → Agree (new_reads old new) files → (result : Result (List Unit) LoadFault) × AreLoadReads files main fixed_names result (new_reads old new)
   pub once : IsDistinct bytes_eq (map (λ read. read.name) (new_reads old new))
   pub files : Held
   pub agree : Agree (new_reads old new) files

@@ -12,5 +12,6 @@ pub mod Lines
 pub mod Answers
 pub mod Relied
 pub mod InnerAnswers
+pub mod InnerSummaries
 pub mod WordsFound
 pub mod WordsSeen

@@ -1,10 +1,10 @@
 -- What is found in words that are cut, with no list of their parts.
 -- The headline does not rest on this file.
-use Rattle.std.specs.Prelude.{ℕ, List, [], ◌∷◌, Option, Some, None, option_map, if◌then◌else◌, bytes_eq}
+use Rattle.std.specs.Prelude.{ℕ, ◌-◌, ◌^◌, List, [], ◌∷◌, Option, Some, None, option_map, if◌then◌else◌, bytes_eq}
 use Rattle.ciao_modules.specs.FileNames.{Word, is_main_file}
-use Rattle.ciao_top.specs.WordsTable.{OptionRow, steps_row, answers_row}
+use Rattle.ciao_top.specs.WordsTable.{OptionRow, steps_row, answers_row, most_generated}
 use Rattle.ciao_top.specs.WordsCut.{GivenOption, WordParts, WordUse, Separator, Name, Given, Positional, Dashed, use_of}
-use Rattle.ciao_top.specs.WordsAccepted.{values_of, number_within, RunWords}
+use Rattle.ciao_top.specs.WordsAccepted.{values_of, number_between, number_within, RunWords, GenerateWords}
 
 -- words, up to two
 pub data FewWords : Type 0 where
@@ -101,3 +101,18 @@ run_numbered file query steps answers = None
 abbrev pub run_found : FewWords → FewValues → FewValues → Option RunWords
 run_found (two_words file query) steps answers = if is_main_file file then run_numbered file query (number_found steps_row steps) (number_found answers_row answers) else None
 run_found few steps answers = None
+
+-- the check of what is found: one positional word, which is a main file
+abbrev pub check_found : FewWords → Option Word
+check_found (one_word file) = if is_main_file file then Some file else None
+check_found few = None
+
+-- the generated module with these numbers, where there are all
+abbrev pub generate_steps : Option ℕ → Option ℕ → Option (Option ℕ) → Option GenerateWords
+generate_steps (Some number) (Some count) (Some (Some steps)) = Some (record { number = number; count = count; steps = steps })
+generate_steps number count steps = None
+
+-- the generated module of what is found: two numbers as positional words, and the values of `--steps`
+abbrev pub generate_found : FewWords → FewValues → Option GenerateWords
+generate_found (two_words number count) steps = generate_steps (number_between 0 (2 ^ 63 - 1) number) (number_between 1 most_generated count) (number_found steps_row steps)
+generate_found few steps = None

@@ -4,8 +4,10 @@
 mod prepare;
 mod queries;
 mod relied;
+mod reports;
 mod runs;
 mod stops;
+mod summaries;
 mod tool;
 mod words;
 

@@ -1,15 +1,16 @@
-// From a command to the program and the query that are run, or to why there are none.
+// From a main file to its program, and from a run to the program and the query, or to why there are none.
 ghost use Rattle.std.specs.Prelude.{◌≡◌, true, IfOk, IfErr, length};
 ghost use Rattle.byte_io.specs.Outside.{Held, Rose};
-ghost use Rattle.term_core.specs.Names.{name_text};
+ghost use Rattle.term_core.specs.Names.{fixed_names, name_text};
 ghost use Rattle.prog_data.specs.Programs.{IsProgram, IsLinked};
 ghost use Rattle.ciao_modules.specs.FileNames.{is_main_file};
 ghost use Rattle.ciao_modules.specs.LoadReads.{Agree, new_reads};
 ghost use Rattle.ciao_modules.specs.UnitRanges.{AreUnitsInRange};
 ghost use Rattle.program_link.specs.Linked.{Linked, linked};
+ghost use Rattle.ciao_top.specs.WordsAccepted.{RunQuery, CheckFile};
 ghost use Rattle.ciao_top.specs.Queries.{main_operators, MeetsEntry};
 ghost use Rattle.ciao_top.specs.FileSets.{HasQuery};
-ghost use Rattle.ciao_top.specs.InnerAnswers.{run_words, DeviceGoesOn, RefusalStops, FailedStops, LoadStops, LinkStops, HasQueryOf, QueryStops, HasQueryIn, UnitStops, Stops, IsPrepared, CommandReads};
+ghost use Rattle.ciao_top.specs.InnerAnswers.{run_words, DeviceGoesOn, RefusalStops, FailedStops, LoadStops, LinkStops, HasQueryOf, QueryStops, HasQueryIn, UnitStops, Stops, IsPrepared, AreLoaded, IsProgramOf, CommandReads};
 
 use crate::queries::{call_fault, read_query};
 use crate::stops::{Reason, Stop};
@@ -19,6 +20,7 @@ use ciao_modules::{LoadFault, Unit, load_set};
 use prog_data::{Program, Refusal, Text, program_ranges_law};
 use program_link::{LinkFault, link};
 use run_report::refusal_text;
+use sqlite_items::Items;
 use std::alloc::Global;
 use term_core::{Names, NoMemory, OpTable, Term};
 
@@ -139,32 +141,101 @@ fn prepare_units(alloc: Global, names: Names, units: &[Unit], text: &str) -> Res
     }
 }
 
-/// The program and the query of a command.
-///
-/// # Errors
-/// Why there are none.
-pub(crate) fn prepare<F: Files>(
+// The units that are reached from a main file, and the names.
+#[derive(Drop)]
+struct LoadedSet {
+    names: Names,
+    units: Items<Unit>,
+}
+
+// The units that are reached from a main file, over these names.
+fn load_over<F: Files>(
     alloc: Global,
-    command: &RunCommand<'_>,
+    names: Names,
+    main: &str,
     files: &mut F,
-) -> Result<Prepared, Stop>
-    requires { is_main_file command.now.file.now ≡ true }
-    ensures reads { CommandReads (F.held files.old) (run_words command.now) (F.reads files.old) (F.reads files.new) }
-    ensures ok { IfOk result (λ prepared. (held : Held) → Agree (new_reads (F.reads files.old) (F.reads files.new)) held → HasQuery held (run_words command.now) prepared.program prepared.query) }
-    ensures met { IfOk result (λ prepared. MeetsEntry prepared.program prepared.query) }
-    ensures range { IfOk result (λ prepared. IsPrepared prepared.program prepared.query) }
-    ensures err { IfErr result (Stops (run_words command.now) (new_reads (F.reads files.old) (F.reads files.new)) (Rose (F.faults files.old) (F.faults files.new))) }
+) -> Result<LoadedSet, Stop>
+    requires names { names ≡ fixed_names }
+    requires main { is_main_file main.now ≡ true }
+    ensures reads { CommandReads (F.held files.old) main.now (F.reads files.old) (F.reads files.new) }
+    ensures ok { IfOk result (λ set. AreLoaded (new_reads (F.reads files.old) (F.reads files.new)) main.now set.names set.units) }
+    ensures range { IfOk result (λ set. AreUnitsInRange (length set.names) set.units) }
+    ensures err { IfErr result (Stops (CheckFile main.now) (new_reads (F.reads files.old) (F.reads files.new)) (Rose (F.faults files.old) (F.faults files.new))) }
+    ensures kept { F.held files.new ≡ F.held files.old }
+    ensures files { DeviceGoesOn (F.steady files.old) (F.steady files.new) (F.faults files.old) (F.faults files.new) }
+{
+    let mut names = names;
+    match load_set(alloc, &mut names, files, main) {
+        Err(fault) => Err(load_stop(alloc, &names, &fault)),
+        Ok(units) => Ok(LoadedSet { names, units }),
+    }
+}
+
+// The units that are reached from a main file.
+fn load<F: Files>(alloc: Global, main: &str, files: &mut F) -> Result<LoadedSet, Stop>
+    requires { is_main_file main.now ≡ true }
+    ensures reads { CommandReads (F.held files.old) main.now (F.reads files.old) (F.reads files.new) }
+    ensures ok { IfOk result (λ set. AreLoaded (new_reads (F.reads files.old) (F.reads files.new)) main.now set.names set.units) }
+    ensures range { IfOk result (λ set. AreUnitsInRange (length set.names) set.units) }
+    ensures err { IfErr result (Stops (CheckFile main.now) (new_reads (F.reads files.old) (F.reads files.new)) (Rose (F.faults files.old) (F.faults files.new))) }
     ensures kept { F.held files.new ≡ F.held files.old }
     ensures files { DeviceGoesOn (F.steady files.old) (F.steady files.new) (F.faults files.old) (F.faults files.new) }
 {
     match Names::new(alloc) {
         Err(_) => Err(Stop::NoMemory),
-        Ok(names) => {
-            let mut names = names;
-            match load_set(alloc, &mut names, files, command.file) {
-                Err(fault) => Err(load_stop(alloc, &names, &fault)),
-                Ok(units) => prepare_units(alloc, names, units.as_slice(), command.query),
-            }
+        Ok(names) => load_over(alloc, names, main, files),
+    }
+}
+
+/// The program of the files that are reached from a main file.
+///
+/// # Errors
+/// Why there is none.
+pub(crate) fn program_of_file<F: Files>(
+    alloc: Global,
+    main: &str,
+    files: &mut F,
+) -> Result<Program, Stop>
+    requires { is_main_file main.now ≡ true }
+    ensures reads { CommandReads (F.held files.old) main.now (F.reads files.old) (F.reads files.new) }
+    ensures ok { IfOk result (IsProgramOf (new_reads (F.reads files.old) (F.reads files.new)) main.now) }
+    ensures range { IfOk result IsProgram }
+    ensures err { IfErr result (Stops (CheckFile main.now) (new_reads (F.reads files.old) (F.reads files.new)) (Rose (F.faults files.old) (F.faults files.new))) }
+    ensures kept { F.held files.new ≡ F.held files.old }
+    ensures files { DeviceGoesOn (F.steady files.old) (F.steady files.new) (F.faults files.old) (F.faults files.new) }
+{
+    match load(alloc, main, files) {
+        Err(stop) => Err(stop),
+        Ok(set) => {
+            let LoadedSet { names, units } = set;
+            link_units(alloc, names, units.as_slice())
+        }
+    }
+}
+
+/// The program and the query of a run.
+///
+/// # Errors
+/// Why there are none.
+pub(crate) fn prepare<F: Files>(
+    alloc: Global,
+    run: &RunCommand<'_>,
+    files: &mut F,
+) -> Result<Prepared, Stop>
+    requires { is_main_file run.now.file.now ≡ true }
+    ensures reads { CommandReads (F.held files.old) run.now.file.now (F.reads files.old) (F.reads files.new) }
+    ensures ok { IfOk result (λ prepared. (held : Held) → Agree (new_reads (F.reads files.old) (F.reads files.new)) held → HasQuery held (run_words run.now) prepared.program prepared.query) }
+    ensures met { IfOk result (λ prepared. MeetsEntry prepared.program prepared.query) }
+    ensures range { IfOk result (λ prepared. IsPrepared prepared.program prepared.query) }
+    ensures err { IfErr result (Stops (RunQuery (run_words run.now)) (new_reads (F.reads files.old) (F.reads files.new)) (Rose (F.faults files.old) (F.faults files.new))) }
+    ensures kept { F.held files.new ≡ F.held files.old }
+    ensures files { DeviceGoesOn (F.steady files.old) (F.steady files.new) (F.faults files.old) (F.faults files.new) }
+{
+    match load(alloc, run.file, files) {
+        Err(stop) => Err(stop),
+        Ok(set) => {
+            let LoadedSet { names, units } = set;
+            prepare_units(alloc, names, units.as_slice(), run.query)
         }
     }
 }

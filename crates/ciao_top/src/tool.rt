@@ -8,9 +8,11 @@ ghost use Rattle.ciao_top.specs.InnerAnswers.{DeviceGoesOn, Comes, Only};
 
 use crate::prepare::prepare;
 use crate::relied::relied_law;
+use crate::reports::{report_file, write_lines};
 use crate::runs::{write_text, write_whole};
 use crate::stops::{Reason, Stop, stop_status, stop_text};
-use crate::words::read_words;
+use crate::summaries::summarise;
+use crate::words::{Command, read_words};
 use byte_io::{Files, Sink};
 use ciao_modules::some_load_law;
 use machine_model::{ends_law, one_run_law};
@@ -34,10 +36,15 @@ fn write_stop<S: Sink>(alloc: Global, stop: &Stop, out: &mut S) -> u8
 
 /// Runs the command that the words are, and gives the status.
 ///
-/// The words are `run FILE QUERY --steps N`, perhaps with `--answers K`. The files that are reached from FILE are read, and
-/// linked to a program. Each event of the run is written as one piece, and then its ending, or the line of the answer limit.
-/// The status is 0 to 6 by the ending or the fault that is told, 7 where a file could not be read, 8 where the
-/// sink refused, and 9 for want of memory.
+/// The words are `run FILE QUERY --steps N`, perhaps with `--answers K`, or `check FILE`, or `generate G N --steps M`. The
+/// files that are reached from FILE are read, and linked to a program; nothing is read for a generated module.
+///
+/// Of a run each event is written as one piece, and then its ending, or the line of the answer limit. The report of a
+/// file tells of each assertion whether it is checked, false, or left to be checked, by the least closed table of the
+/// program. The summary of a generated module has the last line of its report, and the number of answers and the ending of its run.
+///
+/// The status is 0 to 6 by the ending or the fault that is told, 1 for a report with a false too, 7 where a file could not
+/// be read, 8 where the sink refused, and 9 for want of memory.
 pub fn run_tool<R: Threads + Sync, F: Files, S: Sink>(
     _rt: &R,
     alloc: Global,
@@ -60,9 +67,17 @@ pub fn run_tool<R: Threads + Sync, F: Files, S: Sink>(
     relied_law(); // for the proof
     match read_words(words) {
         None => write_stop(alloc, &Stop::Refused(Reason::NoCommand), out),
-        Some(command) => match prepare(alloc, &command, files) {
+        Some(Command::Run(run)) => match prepare(alloc, &run, files) {
             Err(stop) => write_stop(alloc, &stop, out),
-            Ok(prepared) => write_whole(alloc, &prepared, command.steps, command.answers, out),
+            Ok(prepared) => write_whole(alloc, &prepared, run.steps, run.answers, out),
+        },
+        Some(Command::Check(file)) => match report_file(alloc, file, files) {
+            Err(stop) => write_stop(alloc, &stop, out),
+            Ok(report) => write_lines(report.lines.as_slice(), report.status, out),
+        },
+        Some(Command::Generate(made)) => match summarise(alloc, made) {
+            Err(stop) => write_stop(alloc, &stop, out),
+            Ok(summary) => write_lines(summary.lines.as_slice(), summary.status, out),
         },
     }
 }
