@@ -16,6 +16,8 @@ mod devices;
 #[cfg(test)]
 mod entries;
 #[cfg(test)]
+mod generated;
+#[cfg(test)]
 mod imports;
 #[cfg(test)]
 mod limits;
@@ -29,6 +31,8 @@ mod properties;
 mod reading;
 #[cfg(test)]
 mod refusals;
+#[cfg(test)]
+mod reports;
 #[cfg(test)]
 mod runs;
 #[cfg(test)]
