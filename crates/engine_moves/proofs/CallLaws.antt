@@ -81,7 +81,7 @@ not_marked e pred row kept within none =
     subst (λ conds. HasMarked e pred conds None e) (sym empty) (record { goes = stays e (length e.links.items) kept (omega arith); mark_is = refl })
 
 pub is_marked : PointsPushed → (e new : code.Engine) (pred : ℕ) (row : Row) (height : ℕ) → IsRowWithin (length e.notes.items) row → (row.count ≡ 0 → ⊥) → height ≡ length (choices_at e) →
-    GoesTo e (length e.links.items) (alternative_choices (value_of e.heap.changes) (as_links e.notes.items e.links.items) e.query (as_alternative e.notes.items (code_alternative.Marks pred row false)) ++ choices_at e) new →
+    GoesTo e (length e.links.items) (alternative_choices (value_of e.heap.changes) (as_links e.notes.items e.links.items) e.query (as_alternative e.index e.notes.items (code_alternative.Marks pred row false)) ++ choices_at e) new →
     HasMarked e pred (row_of e.notes.items row) (Some height) new
 is_marked pushed e new pred row height within some is goes =
     let conds = row_of e.notes.items row in
@@ -103,7 +103,7 @@ no_clauses e exit rest kept none =
     subst (λ ts. GoesTo e (length e.links.items) (ts ++ choices_at e) e) (sym (no_tries (pred_of e.program.now exit.pred).clauses (call_now e exit rest) none)) (stays e (length e.links.items) kept (omega arith))
 
 pub some_clauses : PointsPushed → (e new : code.Engine) (exit : code_exit.Exit) (rest count height : ℕ) → count ≡ length (pred_of e.program.now exit.pred).clauses → height ≡ length (choices_at e) →
-    GoesTo e (length e.links.items) (alternative_choices (value_of e.heap.changes) (as_links e.notes.items e.links.items) e.query (as_alternative e.notes.items (code_alternative.Retries 0 count (record { exit = exit; height = height; rest = rest }))) ++ choices_at e) new →
+    GoesTo e (length e.links.items) (alternative_choices (value_of e.heap.changes) (as_links e.notes.items e.links.items) e.query (as_alternative e.index e.notes.items (code_alternative.Retries 0 count (record { exit = exit; height = height; rest = rest }))) ++ choices_at e) new →
     GoesTo e (length e.links.items) (tries 0 (pred_of e.program.now exit.pred).clauses (call_now e exit rest) ++ choices_at e) new
 some_clauses pushed e new exit rest count height many is goes =
     let clauses = (pred_of e.program.now exit.pred).clauses in
@@ -111,7 +111,7 @@ some_clauses pushed e new exit rest count height many is goes =
     let links = as_links e.notes.items e.links.items in
     let pending : Pending = record { exit = as_exit e.notes.items exit; height = length (choices_at e); rest = rest } in
     let left : count - 0 ≡ length clauses = omega (arith, many) in
-    let same : alternative_choices value links e.query (as_alternative e.notes.items (code_alternative.Retries 0 count (record { exit = exit; height = height; rest = rest }))) ≡ tries 0 clauses (call_now e exit rest) =
+    let same : alternative_choices value links e.query (as_alternative e.index e.notes.items (code_alternative.Retries 0 count (record { exit = exit; height = height; rest = rest }))) ≡ tries 0 clauses (call_now e exit rest) =
     (λ i. alternative_choices value links e.query (Retries (places 0 (left i)) (record { exit = as_exit e.notes.items exit; height = is i; rest = rest })))
     ∙ sym (pushed.clauses value links e.query pending clauses) in
     subst (λ ts. GoesTo e (length e.links.items) (ts ++ choices_at e) new) same goes

@@ -33,7 +33,7 @@ module _ (law : Relied) (old : code.Engine) (heap : History) (more : List Change
   links = as_links old.notes.items old.links.items
 
   abbrev points : List ChoicePoint
-  points = as_points old.notes.items old.points.items
+  points = as_points old.index old.notes.items old.points.items
 
   later_moments : HasMoments old.program.now old.query heap.changes old.notes.items old.links.items old.points.items
   later_moments =

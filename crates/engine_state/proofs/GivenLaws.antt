@@ -37,9 +37,9 @@ alternative_more held more (alternative.Marks p conds exited) le is = omega (ari
 
 module _ (all : List ℕ) where
   abbrev as_all : List code_point.ChoicePoint → List ChoicePoint
-  as_all points = map (as_point all) points
+  as_all points = map (as_point index all) points
 
-  width_some : (a : code_alternative.Alternative) → IsWide a → 0 < width (as_alternative all a)
+  width_some : (a : code_alternative.Alternative) → IsWide a → 0 < width (as_alternative index all a)
   width_some (alternative.Resumes rest) wide = omega arith
   width_some (alternative.Retries next end c) wide = omega (arith, wide, length-places next (end - next))
   width_some (alternative.Marks p conds exited) wide = omega arith
@@ -48,7 +48,7 @@ module _ (all : List ℕ) where
   below_height : (height : ℕ) (points : List code_point.ChoicePoint) → height_of (as_all points) ≤ height → AllByRecursion (λ p. IsWide p.alternative) points → AreCounted (as_all points) → AllByRecursion (λ p. p.below < height) points
   below_height height [] le wide counted = tt
   below_height height (p ∷ ps) le wide counted =
-      let some : 0 < width (as_alternative all p.alternative) = width_some p.alternative wide.0 in
+      let some : 0 < width (as_alternative index all p.alternative) = width_some p.alternative wide.0 in
       (omega (arith, le, some), below_height height ps (omega (arith, le, counted.0)) wide.1 counted.1)
 
   rising_end : (points : List code_point.ChoicePoint) (p : code_point.ChoicePoint) → AreRising points → AllByRecursion (λ q. q.below < p.below) points → AreRising (points ++ p ∷ [])
@@ -64,22 +64,22 @@ module _ (all : List ℕ) where
 -- moments
 
 module _ (program : Program) where
-  pub rest_placed : (all : List ℕ) (cells links : ℕ) (a : code_alternative.Alternative) → IsAlternativePlaced program cells links a → rest_of (as_alternative all a) ≤ links
+  pub rest_placed : (all : List ℕ) (cells links : ℕ) (a : code_alternative.Alternative) → IsAlternativePlaced program cells links a → rest_of (as_alternative index all a) ≤ links
   rest_placed all cells links (alternative.Resumes rest) is = is
   rest_placed all cells links (alternative.Retries next end c) is = is.2
   rest_placed all cells links (alternative.Marks p conds exited) is = omega arith
 
-  pub in_order : (all : List ℕ) (query : ℕ) (changes : List Change) (notes : ℕ) (links : List code_link.Link) (points : List code_point.ChoicePoint) → Moments program query changes notes links points → AreInOrder (length changes) (map (as_point all) points)
+  pub in_order : (all : List ℕ) (query : ℕ) (changes : List Change) (notes : ℕ) (links : List code_link.Link) (points : List code_point.ChoicePoint) → Moments program query changes notes links points → AreInOrder (length changes) (map (as_point index all) points)
   in_order all query changes notes links [] are = tt
   in_order all query changes notes links (p ∷ ps) are =
-      (are.1.trail, subst (λ n. AreInOrder n (map (as_point all) ps)) (undone_length p.trail changes are.1.trail) (in_order all query (undone p.trail changes) p.notes (drop (length links - p.links) links) ps are.2))
+      (are.1.trail, subst (λ n. AreInOrder n (map (as_point index all) ps)) (undone_length p.trail changes are.1.trail) (in_order all query (undone p.trail changes) p.notes (drop (length links - p.links) links) ps are.2))
 
-  pub held : (all : List ℕ) (query : ℕ) (changes : List Change) (notes : ℕ) (links : List code_link.Link) (points : List code_point.ChoicePoint) → Moments program query changes notes links points → AreHeld (length links) (map (as_point all) points)
+  pub held : (all : List ℕ) (query : ℕ) (changes : List Change) (notes : ℕ) (links : List code_link.Link) (points : List code_point.ChoicePoint) → Moments program query changes notes links points → AreHeld (length links) (map (as_point index all) points)
   held all query changes notes links [] are = tt
   held all query changes notes links (p ∷ ps) are = (
     are.1.fewer_links,
     rest_placed all _ p.links p.alternative are.1.placed,
-    subst (λ n. AreHeld n (map (as_point all) ps)) (left_length p.links links are.1.fewer_links) (held all query (undone p.trail changes) p.notes (drop (length links - p.links) links) ps are.2),
+    subst (λ n. AreHeld n (map (as_point index all) ps)) (left_length p.links links are.1.fewer_links) (held all query (undone p.trail changes) p.notes (drop (length links - p.links) links) ps are.2),
   )
 
   placed_down : (cells notes : ℕ) (links : List code_link.Link) → ArePlaced program cells notes links → LeadDown links
@@ -118,7 +118,7 @@ module _ (program : Program) where
   all_wide query changes notes links [] are = tt
   all_wide query changes notes links (p ∷ ps) are = (are.1.wide, all_wide query (undone p.trail changes) p.notes (drop (length links - p.links) links) ps are.2)
 
-  pub rising : (all : List ℕ) (query : ℕ) (changes : List Change) (notes : ℕ) (links : List code_link.Link) (points : List code_point.ChoicePoint) → Moments program query changes notes links points → AreCounted (map (as_point all) points) → AreRising (reverse points)
+  pub rising : (all : List ℕ) (query : ℕ) (changes : List Change) (notes : ℕ) (links : List code_link.Link) (points : List code_point.ChoicePoint) → Moments program query changes notes links points → AreCounted (map (as_point index all) points) → AreRising (reverse points)
   rising all query changes notes links points are counted = rising_all all points (all_wide query changes notes links points are) counted
 
   pub moments_give : MomentsGive program

@@ -40,10 +40,10 @@ module _ (e : code.Engine) (a : code_alternative.Alternative) (kept : IsKept e) 
   links = as_links e.notes.items e.links.items
 
   abbrev points : List ChoicePoint
-  points = as_points e.notes.items e.points.items
+  points = as_points e.index e.notes.items e.points.items
 
   abbrev alt : Alternative
-  alt = as_alternative e.notes.items a
+  alt = as_alternative e.index e.notes.items a
 
   are_placed : IsMoment e.program.now e.query (size_of e.heap.changes) (length e.notes.items) (reverse e.links.items)
   are_placed = moment_now e.program.now e.query e.heap.changes (length e.notes.items) (reverse e.links.items) (reverse e.points.items) kept.moments
@@ -83,7 +83,7 @@ gone_back old new a found at taken made =
     }
 
 -- where the newest choice is a clause of a call, it is to be tried
-pub before_clause : (e : code.Engine) (next end : ℕ) (c : code_pending.Pending) → next < end → width (as_alternative e.notes.items (alternative.Retries next end c)) ≤ 1 → back_state e (alternative.Retries next end c)
+pub before_clause : (e : code.Engine) (next end : ℕ) (c : code_pending.Pending) → next < end → width (as_alternative e.index e.notes.items (alternative.Retries next end c)) ≤ 1 → back_state e (alternative.Retries next end c)
     ≡ before_try e.calls (size_of e.heap.changes) next (call_with (value_of e.heap.changes) (tasks_at e c.rest) e.query (as_pending e.notes.items c)) (choices_at e)
 before_clause e next end c less single =
     let one : end - next ≡ suc zero = omega (arith, less, single, length-places next (end - next)) in

@@ -41,7 +41,7 @@ module _ (held : ℕ) (old more : List ℕ) (enough : held ≤ length old) where
   task_stays (task.Fails h place) within = refl
   task_stays (task.Leaves e) within = ap (λ noted. Leaves (record (as_exit old e) { noted = noted })) (row_stays e.noted within)
 
-  alternative_stays : (a : code_alternative.Alternative) → IsAlternativeNoted held a → as_alternative new a ≡ as_alternative old a
+  alternative_stays : (a : code_alternative.Alternative) → IsAlternativeNoted held a → as_alternative index new a ≡ as_alternative index old a
   alternative_stays (alternative.Resumes rest) within = refl
   alternative_stays (alternative.Retries next end c) within =
       ap (λ noted. Retries (places next (end - next)) (record { exit = record (as_exit old c.exit) { noted = noted }; height = c.height; rest = c.rest })) (row_stays c.exit.noted within)
@@ -61,6 +61,6 @@ notes_stay = record {
   links = λ held old more items enough all.
       reversed_same (as_link (take held old ++ more)) (as_link old) (λ l. IsTaskNoted held l.task) items (λ l within. ap (λ t. record { task = t; next = l.next }) (task_stays held old more enough l.task within)) all;
   points = λ held old more items enough all.
-      reversed_same (as_point (take held old ++ more)) (as_point old) (λ p. IsAlternativeNoted held p.alternative) items
+      reversed_same (as_point index (take held old ++ more)) (as_point index old) (λ p. IsAlternativeNoted held p.alternative) items
       (λ p within. ap (λ a. record { trail = p.trail; links = p.links; below = p.below; alternative = a }) (alternative_stays held old more enough p.alternative within)) all;
 }

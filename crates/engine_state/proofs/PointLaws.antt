@@ -41,10 +41,10 @@ module _ (points : List code.ChoicePoint) (p : code.ChoicePoint) (at_end : IsNew
   notes_are = sym (ap notes_held newest_first)
 
 module _ (notes : List ℕ) (points : List code.ChoicePoint) (p : code.ChoicePoint) (at_end : IsNewest points p) where
-  pub points_are : as_points notes points ≡ as_point notes p ∷ as_points notes at_end.older
-  points_are = ap (as_points notes) at_end.is ∙ ap (map (as_point notes)) (reverse-append at_end.older (p ∷ []))
+  pub points_are : as_points index notes points ≡ as_point index notes p ∷ as_points index notes at_end.older
+  points_are = ap (as_points index notes) at_end.is ∙ ap (map (as_point index notes)) (reverse-append at_end.older (p ∷ []))
 
-  pub height_is : p.below + width (as_alternative notes p.alternative) ≡ height_of (as_points notes points)
+  pub height_is : p.below + width (as_alternative index notes p.alternative) ≡ height_of (as_points index notes points)
   height_is = sym (ap height_of points_are)
 
   pub size_is : length points ≡ length at_end.older + 1
@@ -55,9 +55,9 @@ module _ (notes : List ℕ) (points : List code.ChoicePoint) (p : code.ChoicePoi
   older_are new is = is ∙ ap (take (length points - 1)) at_end.is ∙ take_at at_end.older (p ∷ []) (length points - 1) (omega (arith, size_is))
 
   -- with another one in its place
-  pub changed_are : (q : code.ChoicePoint) (n : ℕ) (new : List code.ChoicePoint) → n + 1 ≡ length points → new ≡ slice_set points n q → as_points notes new ≡ as_point notes q ∷ as_points notes at_end.older
+  pub changed_are : (q : code.ChoicePoint) (n : ℕ) (new : List code.ChoicePoint) → n + 1 ≡ length points → new ≡ slice_set points n q → as_points index notes new ≡ as_point index notes q ∷ as_points index notes at_end.older
   changed_are q n new e is =
-      ap (as_points notes) (is ∙ ap (λ ps. slice_set ps n q) at_end.is ∙ set_at at_end.older p [] q n (omega (arith, e, size_is))) ∙ ap (map (as_point notes)) (reverse-append at_end.older (q ∷ []))
+      ap (as_points index notes) (is ∙ ap (λ ps. slice_set ps n q) at_end.is ∙ set_at at_end.older p [] q n (omega (arith, e, size_is))) ∙ ap (map (as_point index notes)) (reverse-append at_end.older (q ∷ []))
 
 -- clauses that are left
 
@@ -81,29 +81,29 @@ clauses_short next end left new is =
     (λ i. places (from i) (count i)) ∙ sym (drop_places ((end - next) - left) next (end - next)) ∙ ap (λ n. drop (n - left) (places next (end - next))) (sym size)
 
 -- an alternative with one clause at most
-pub width_short : (notes : List ℕ) (next end : ℕ) (c : code_pending.Pending) (a : code_a.Alternative) → a ≡ code_alternative.Retries next end c → end - next ≤ 1 → width (as_alternative notes a) ≤ 1
-width_short notes next end c a is le = subst (λ n. n ≤ 1) (sym (ap (λ x. width (as_alternative notes x)) is ∙ length-places next (end - next))) le
+pub width_short : (notes : List ℕ) (next end : ℕ) (c : code_pending.Pending) (a : code_a.Alternative) → a ≡ code_alternative.Retries next end c → end - next ≤ 1 → width (as_alternative index notes a) ≤ 1
+width_short notes next end c a is le = subst (λ n. n ≤ 1) (sym (ap (λ x. width (as_alternative index notes x)) is ∙ length-places next (end - next))) le
 
 -- cutting
 
 module _ (notes : List ℕ) (height : ℕ) (points new : List code.ChoicePoint) (p : code.ChoicePoint) (at_end : IsNewest points p) where
   -- the newest is taken off
-  pub cut_off : new ≡ take (length points - 1) points → height ≤ p.below → cut_points height (as_points notes new) ≡ cut_points height (as_points notes points)
+  pub cut_off : new ≡ take (length points - 1) points → height ≤ p.below → cut_points height (as_points index notes new) ≡ cut_points height (as_points index notes points)
   cut_off is le =
-      let older = as_points notes at_end.older in
+      let older = as_points index notes at_end.older in
       let short = λ (x : ChoicePoint). record x { alternative = shortened (height - x.below) x.alternative } in
-      ap (λ ps. cut_points height (as_points notes ps)) (older_are notes points p at_end new is)
-      ∙ sym (ap (cut_points height) (points_are notes points p at_end) ∙ ap (λ b. if b then cut_points height older else short (as_point notes p) ∷ older) (le-leb height p.below le))
+      ap (λ ps. cut_points height (as_points index notes ps)) (older_are notes points p at_end new is)
+      ∙ sym (ap (cut_points height) (points_are notes points p at_end) ∙ ap (λ b. if b then cut_points height older else short (as_point index notes p) ∷ older) (le-leb height p.below le))
 
   -- the newest is shortened
   pub cut_here : (q : code.ChoicePoint) (n : ℕ) → n + 1 ≡ length points → new ≡ slice_set points n q → p.below < height
-      → as_point notes q ≡ record (as_point notes p) { alternative = shortened (height - p.below) (as_alternative notes p.alternative) } → as_points notes new ≡ cut_points height (as_points notes points)
+      → as_point index notes q ≡ record (as_point index notes p) { alternative = shortened (height - p.below) (as_alternative index notes p.alternative) } → as_points index notes new ≡ cut_points height (as_points index notes points)
   cut_here q n e is less is_q =
-      let older = as_points notes at_end.older in
+      let older = as_points index notes at_end.older in
       let short = λ (x : ChoicePoint). record x { alternative = shortened (height - x.below) x.alternative } in
       changed_are notes points p at_end q n new e is
       ∙ ap (λ x. x ∷ older) is_q
-      ∙ sym (ap (cut_points height) (points_are notes points p at_end) ∙ ap (λ b. if b then cut_points height older else short (as_point notes p) ∷ older) (lt-leb height p.below less))
+      ∙ sym (ap (cut_points height) (points_are notes points p at_end) ∙ ap (λ b. if b then cut_points height older else short (as_point index notes p) ∷ older) (lt-leb height p.below less))
 
 -- taking the newest choice
 
@@ -127,29 +127,29 @@ taken_clause p ps x left c = record {
 }
 
 module _ (notes : List ℕ) (points new : List code.ChoicePoint) (p : code.ChoicePoint) (at_end : IsNewest points p) where
-  pub whole : new ≡ take (length points - 1) points → width (as_alternative notes p.alternative) ≤ 1 → IsTaken (as_points notes points) (as_point notes p) (as_points notes new)
+  pub whole : new ≡ take (length points - 1) points → width (as_alternative index notes p.alternative) ≤ 1 → IsTaken (as_points index notes points) (as_point index notes p) (as_points index notes new)
   whole is single =
-      subst (λ ps. IsTaken (as_points notes points) (as_point notes p) (as_points notes ps)) (sym (older_are notes points p at_end new is))
-      (subst (λ ps. IsTaken ps (as_point notes p) (as_points notes at_end.older)) (sym (points_are notes points p at_end))
-      (taken_whole (as_point notes p) (as_points notes at_end.older) single))
+      subst (λ ps. IsTaken (as_points index notes points) (as_point index notes p) (as_points index notes ps)) (sym (older_are notes points p at_end new is))
+      (subst (λ ps. IsTaken ps (as_point index notes p) (as_points index notes at_end.older)) (sym (points_are notes points p at_end))
+      (taken_whole (as_point index notes p) (as_points index notes at_end.older) single))
 
   module _ (next end : ℕ) (c : code_pending.Pending) (is_p : p.alternative ≡ code_alternative.Retries next end c) (q r : code.ChoicePoint) (n : ℕ) (size : n + 1 ≡ length points) (is_new : new ≡ slice_set points n q)
       (is_q : q ≡ record p { alternative = code_alternative.Retries (next + 1) end c }) (is_r : r ≡ record p { alternative = code_alternative.Retries next (next + 1) c }) (more : 1 < end - next) where
-    pub clause : IsTaken (as_points notes points) (as_point notes r) (as_points notes new)
+    pub clause : IsTaken (as_points index notes points) (as_point index notes r) (as_points index notes new)
     clause =
-        let older = as_points notes at_end.older in
+        let older = as_points index notes at_end.older in
         let left : List ℕ = places (next + 1) (end - (next + 1)) in
-        let with_left = λ (xs : List ℕ). record (as_point notes p) { alternative = Retries xs (as_pending notes c) } in
+        let with_left = λ (xs : List ℕ). record (as_point index notes p) { alternative = Retries xs (as_pending notes c) } in
         let count : end - next ≡ suc (end - (next + 1)) = omega (arith, more) in
         let after : suc next ≡ next + 1 = omega arith in
         let one : (next + 1) - next ≡ suc zero = omega arith in
-        let all : as_point notes p ≡ with_left (next ∷ left) =
-        ap (λ a. record (as_point notes p) { alternative = as_alternative notes a }) is_p ∙ ap (λ m. with_left (places next m)) count ∙ ap (λ m. with_left (next ∷ places m (end - (next + 1)))) after in
-        let first : as_point notes r ≡ with_left (next ∷ []) = ap (as_point notes) is_r ∙ ap (λ m. with_left (places next m)) one in
-        let rest : as_point notes q ≡ with_left left = ap (as_point notes) is_q in
-        let is_points : as_points notes points ≡ with_left (next ∷ left) ∷ older = points_are notes points p at_end ∙ ap (λ x. x ∷ older) all in
-        let is_rest : as_points notes new ≡ with_left left ∷ older = changed_are notes points p at_end q n new size is_new ∙ ap (λ x. x ∷ older) rest in
-        subst (λ ps. IsTaken (as_points notes points) (as_point notes r) ps) (sym is_rest)
-        (subst (λ x. IsTaken (as_points notes points) x (with_left left ∷ older)) (sym first)
+        let all : as_point index notes p ≡ with_left (next ∷ left) =
+        ap (λ a. record (as_point index notes p) { alternative = as_alternative index notes a }) is_p ∙ ap (λ m. with_left (places next m)) count ∙ ap (λ m. with_left (next ∷ places m (end - (next + 1)))) after in
+        let first : as_point index notes r ≡ with_left (next ∷ []) = ap (as_point index notes) is_r ∙ ap (λ m. with_left (places next m)) one in
+        let rest : as_point index notes q ≡ with_left left = ap (as_point index notes) is_q in
+        let is_points : as_points index notes points ≡ with_left (next ∷ left) ∷ older = points_are notes points p at_end ∙ ap (λ x. x ∷ older) all in
+        let is_rest : as_points index notes new ≡ with_left left ∷ older = changed_are notes points p at_end q n new size is_new ∙ ap (λ x. x ∷ older) rest in
+        subst (λ ps. IsTaken (as_points index notes points) (as_point index notes r) ps) (sym is_rest)
+        (subst (λ x. IsTaken (as_points index notes points) x (with_left left ∷ older)) (sym first)
         (subst (λ ps. IsTaken ps (with_left (next ∷ [])) (with_left left ∷ older)) (sym is_points)
-        (taken_clause (as_point notes p) older next left (as_pending notes c))))
+        (taken_clause (as_point index notes p) older next left (as_pending notes c))))

@@ -144,7 +144,7 @@ module _ (found : LeanerStatesAreFound) (program : Program) (is : IsProgram prog
       λ i. record {
         calls = sym no_calls i;
         fresh = size_of changes;
-        choices = choices_of changes (as_links (notes i) (links i)) e.query (as_points (notes i) (points i));
+        choices = choices_of changes (as_links (notes i) (links i)) e.query (as_points index (notes i) (points i));
         current = Doing (record { items = Does (goal.Call pred (parts_are i)) 0 nowhere ∷ map (item_of value) (chain (as_links (notes i) (links i)) 0); query = sym value_is i });
       }
 
@@ -154,7 +154,7 @@ module _ (found : LeanerStatesAreFound) (program : Program) (is : IsProgram prog
   kept : IsKept e
   kept = record {
     in_range = subst IsProgram (sym same_program) is;
-    counted = subst (λ ps. AreCounted (as_points e.notes.items ps)) (sym no_points) tt;
+    counted = subst (λ ps. AreCounted (as_points e.index e.notes.items ps)) (sym no_points) tt;
     moments = subst (λ ps. Moments e.program.now e.query changes (length e.notes.items) (reverse e.links.items) (reverse ps)) (sym no_points)
         (subst (λ ls. Moments e.program.now e.query changes (length e.notes.items) (reverse ls) []) (sym no_links) (at_there, tt));
   }

@@ -14,7 +14,7 @@ returns-in-Some-clause-exited c =
     let p = c.index-point.result.now in
     let found : IsFound c.args.height items c.in-Some.place = subst (λ ps. IsFound c.args.height ps c.in-Some.place) c.as_slice.ensures.value c.in-Some.ensures in
     λ notes. exit_found c.args.height notes items _ c.in-Some.place p c.with.result p found c.index-point.ensures refl
-    (ap (as_point notes) c.with.ensures ∙ ap (λ a. record (as_point notes p) { alternative = a }) (c.exited.ensures.exited notes))
+    (ap (as_point index notes) c.with.ensures ∙ ap (λ a. record (as_point index notes p) { alternative = a }) (c.exited.ensures.exited notes))
 
 pub returns-in-Some-clause-moments : goal.returns-in-Some-clause-moments
 returns-in-Some-clause-moments c =

@@ -14,7 +14,7 @@ returns-then-point-height-clause-cut c =
     λ notes.
     let size : (c.len-last.result - 1) + 1 ≡ length items = omega (arith, size_is notes items p at_end, c.len-last.ensures, c.loop-point.points.ok.0) in
     cut_here notes c.args.height items _ p at_end c.with.result (c.len-last.result - 1) size refl c.if-point-height.true
-    (ap (as_point notes) c.with.ensures ∙ ap (λ a. record (as_point notes p) { alternative = a }) (c.shortened.ensures.shortened notes))
+    (ap (as_point index notes) c.with.ensures ∙ ap (λ a. record (as_point index notes p) { alternative = a }) (c.shortened.ensures.shortened notes))
     ∙ c.loop-point.invariant.cut notes
 
 pub returns-then-point-height-clause-moments : goal.returns-then-point-height-clause-moments

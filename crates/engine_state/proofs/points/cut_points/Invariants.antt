@@ -9,7 +9,7 @@ use Rattle.engine_state.proofs.points.cut_points.Given as goal
 
 abbrev pub invariant-loop-point : goal.invariant-loop-point
 invariant-loop-point l = record {
-  cut : (notes : List ℕ) → cut_points l.height (as_points notes l.points.items) ≡ cut_points l.height (as_points notes l.fn.points.items);
+  cut : (notes : List ℕ) → cut_points l.height (as_points index notes l.points.items) ≡ cut_points l.height (as_points index notes l.fn.points.items);
   moments : (program : Program) (query : ℕ) (changes : List Change) (notes : List ℕ) (links : List Link) → HasMoments program query changes notes links l.fn.points.items → HasMoments program query changes notes links l.points.items;
 }
 

@@ -17,7 +17,7 @@ returns-in-Retries-clause-shortened c =
     let end = c.in-Retries.end in
     let from : c.max.result ≡ max next (end - c.args.left) = omega arith in
     λ notes. ap (λ xs. Retries xs (as_pending notes c.in-Retries.call)) (clauses_short next end c.args.left c.max.result from)
-    ∙ sym (ap (λ a. shortened c.args.left (as_alternative notes a)) c.in-Retries.is)
+    ∙ sym (ap (λ a. shortened c.args.left (as_alternative index notes a)) c.in-Retries.is)
 
 pub returns-in-Retries-clause-may : goal.returns-in-Retries-clause-may
 returns-in-Retries-clause-may c =

@@ -9,4 +9,4 @@ returns-in-Retries c =
     let next = c.in-Retries.next in
     let end = c.in-Retries.end in
     let is : c.saturating_sub.result ≡ end - next = omega arith in
-    λ notes. is ∙ sym (ap (λ a. width (as_alternative notes a)) c.in-Retries.is ∙ length-places next (end - next))
+    λ notes. is ∙ sym (ap (λ a. width (as_alternative index notes a)) c.in-Retries.is ∙ length-places next (end - next))
