@@ -69,8 +69,8 @@ module _ (old : code.Engine) (kept : IsKept old) (p : code_point.ChoicePoint) (h
   same_points : as_points old.index notes.items points.items ≡ as_points old.index old.notes.items points.items
   same_points =
       let noted : ArePointsNoted p.notes (reverse points.items) = subst (λ n. ArePointsNoted n (reverse points.items)) notes_size (points_noted old.program.now old.query heap.changes (length notes.items) (reverse links.items) (reverse points.items) moments) in
-      subst (λ ns. as_points index ns points.items ≡ as_points old.index old.notes.items points.items) front
-      (notes_stay.points p.notes old.notes.items [] points.items back.before.fewer_notes (subst (ArePointsNoted p.notes) (reverse-reverse points.items) (each_reversed (λ q. IsAlternativeNoted p.notes q.alternative) (reverse points.items) noted)))
+      subst (λ ns. as_points old.index ns points.items ≡ as_points old.index old.notes.items points.items) front
+      (notes_stay.points old.index p.notes old.notes.items [] points.items back.before.fewer_notes (subst (ArePointsNoted p.notes) (reverse-reverse points.items) (each_reversed (λ q. IsAlternativeNoted p.notes q.alternative) (reverse points.items) noted)))
 
   abbrev first_of : (d : ChoicePoint) → List ChoicePoint → ChoicePoint
   first_of d [] = d
@@ -79,7 +79,7 @@ module _ (old : code.Engine) (kept : IsKept old) (p : code_point.ChoicePoint) (h
   same_own : as_alternative old.index notes.items p.alternative ≡ as_alternative old.index old.notes.items p.alternative
   same_own =
       ap (λ ps. (first_of (as_point old.index notes.items p) ps).alternative)
-      (subst (λ ns. as_points index ns (p ∷ []) ≡ as_points old.index old.notes.items (p ∷ [])) front (notes_stay.points p.notes old.notes.items [] (p ∷ []) back.before.fewer_notes (back.before.noted, tt)))
+      (subst (λ ns. as_points old.index ns (p ∷ []) ≡ as_points old.index old.notes.items (p ∷ [])) front (notes_stay.points old.index p.notes old.notes.items [] (p ∷ []) back.before.fewer_notes (back.before.noted, tt)))
 
   -- the links that are left have their chains
   same_chain : (j : ℕ) → j ≤ p.links → chain (as_links notes.items links.items) j ≡ chain (as_links old.notes.items old.links.items) j
@@ -95,15 +95,15 @@ module _ (old : code.Engine) (kept : IsKept old) (p : code_point.ChoicePoint) (h
   own_choices =
       ap (alternative_choices (value_of heap.changes) news old.query) same_own
       ∙ same_alternative (value_of heap.changes) olds news old.query (as_alternative old.index old.notes.items p.alternative)
-      (same_chain (rest_of (as_alternative old.index old.notes.items p.alternative)) (rest_placed old.program.now old.notes.items (size_of (undone p.trail old.heap.changes)) p.links p.alternative back.before.placed))
+      (same_chain (rest_of (as_alternative old.index old.notes.items p.alternative)) (rest_placed old.program.now old.index old.notes.items (size_of (undone p.trail old.heap.changes)) p.links p.alternative back.before.placed))
       ∙ ap (λ cs. alternative_choices (value_of cs) olds old.query (as_alternative old.index old.notes.items p.alternative)) heap_is
 
   other_choices : choices_of heap.changes news old.query (as_points old.index notes.items points.items) ≡ choices_of old.heap.changes olds old.query (as_points old.index old.notes.items points.items)
   other_choices =
       let ordered : AreInOrder p.trail (as_points old.index old.notes.items points.items) =
-      subst (λ n. AreInOrder n (as_points old.index old.notes.items points.items)) trail_size (in_order old.program.now old.notes.items old.query (undone p.trail old.heap.changes) p.notes left (reverse points.items) back.moments) in
+      subst (λ n. AreInOrder n (as_points old.index old.notes.items points.items)) trail_size (in_order old.program.now old.index old.notes.items old.query (undone p.trail old.heap.changes) p.notes left (reverse points.items) back.moments) in
       let are_held : AreHeld p.links (as_points old.index old.notes.items points.items) =
-      subst (λ n. AreHeld n (as_points old.index old.notes.items points.items)) left_size (held old.program.now old.notes.items old.query (undone p.trail old.heap.changes) p.notes left (reverse points.items) back.moments) in
+      subst (λ n. AreHeld n (as_points old.index old.notes.items points.items)) left_size (held old.program.now old.index old.notes.items old.query (undone p.trail old.heap.changes) p.notes left (reverse points.items) back.moments) in
       (λ i. choices_of (heap_is i) news old.query (same_points i))
       ∙ pushed_choices (undone p.trail old.heap.changes) olds news p.links old.query (as_points old.index old.notes.items points.items) same_chain are_held
       ∙ back_choices p.trail old.heap.changes olds old.query (as_points old.index old.notes.items points.items) ordered
@@ -116,7 +116,7 @@ module _ (old : code.Engine) (kept : IsKept old) (p : code_point.ChoicePoint) (h
     past = (p.trail, heap_is);
     choices = taken.choices old.heap.changes olds old.query ∙ sym (λ i. own_choices i ++ other_choices i);
     single = subst (λ a. width a ≤ 1) (sym same_own) taken.single;
-    kept = record { in_range = kept.in_range; counted = subst AreCounted (sym same_points) (taken.counted kept.counted); moments = moments };
+    kept = record { in_range = kept.in_range; indexed = kept.indexed; counted = subst AreCounted (sym same_points) (taken.counted kept.counted); moments = moments };
     placed = subst (λ n. IsAlternativePlaced old.program.now (size_of heap.changes) n p.alternative) (sym links_size)
         (subst (λ cs. IsAlternativePlaced old.program.now (size_of cs) p.links p.alternative) (sym heap_is) back.before.placed);
     noted = subst (λ n. IsAlternativeNoted n p.alternative) (sym notes_size) back.before.noted;

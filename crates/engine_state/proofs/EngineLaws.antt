@@ -3,6 +3,7 @@ use Rattle.std.proofs.Common.{◌≡◌, ◌≤◌, ℕ, List, [], ◌∷◌, �
 use Rattle.std.proofs.lemmas.List.{reverse-append, reverse-reverse, length-reverse}
 use Rattle.std.specs.Prelude.{Vec}
 use Rattle.std.specs.declared.alloc.Global.{Global}
+use Rattle.clause_index.specs.declared.keys.Key.{Key}
 use Rattle.machine_model.specs.State.{Choice, Doing, cut, exit_mark}
 use Rattle.machine_model.specs.Step.{mark_of}
 use Rattle.term_heap.specs.Changes.{size_of, value_of}
@@ -32,14 +33,14 @@ pub height_at : (e : code.Engine) (h : ℕ) → IsKept e → h ≡ height_of (as
 height_at e h kept is = is ∙ sym (heights e.heap.changes (as_links e.notes.items e.links.items) e.query (as_points e.index e.notes.items e.points.items) kept.counted)
 
 -- choice points hold what the newest of them does
-held_itself : (all : List ℕ) (links : ℕ) (points : List code_point.ChoicePoint) → AreHeld links (map (as_point index all) points) → AreHeld (links_held points) (map (as_point index all) points)
-held_itself all links [] are = tt
-held_itself all links (p ∷ ps) are = (omega arith, are.1, are.2)
+held_itself : (index : List (List Key)) (all : List ℕ) (links : ℕ) (points : List code_point.ChoicePoint) → AreHeld links (map (as_point index all) points) → AreHeld (links_held points) (map (as_point index all) points)
+held_itself index all links [] are = tt
+held_itself index all links (p ∷ ps) are = (omega arith, are.1, are.2)
 
 pub all_held : (e : code.Engine) → IsKept e → AreHeld (links_held (reverse e.points.items)) (as_points e.index e.notes.items e.points.items)
 all_held e kept =
-    held_itself e.notes.items (length (reverse e.links.items)) (reverse e.points.items)
-    (held e.program.now e.notes.items e.query e.heap.changes (length e.notes.items) (reverse e.links.items) (reverse e.points.items) kept.moments)
+    held_itself e.index e.notes.items (length (reverse e.links.items)) (reverse e.points.items)
+    (held e.program.now e.index e.notes.items e.query e.heap.changes (length e.notes.items) (reverse e.links.items) (reverse e.points.items) kept.moments)
 
 -- what pushing wants
 pub links_enough : (e : code.Engine) → IsKept e → links_held (reverse e.points.items) ≤ length e.links.items
@@ -66,10 +67,10 @@ module _ (old : code.Engine) (kept : IsKept old) where
         heap = refl;
         calls = refl;
         query = refl;
-        choices_are = ap (choices_of old.heap.changes news old.query) gone.points_are
+        choices_are = ap (choices_of old.heap.changes news old.query) (gone.points_are old.index)
             ∙ pushed_choices old.heap.changes olds news (links_held (reverse old.points.items)) old.query (as_points old.index old.notes.items old.points.items) (λ j le. gone.chains j (omega (arith, le))) (all_held old kept);
         tasks = λ j le. gone.chains j (omega (arith, le));
-        kept = record { in_range = kept.in_range; counted = subst AreCounted (sym gone.points_are) kept.counted; moments = gone.moments };
+        kept = record { in_range = kept.in_range; indexed = kept.indexed; counted = subst AreCounted (sym (gone.points_are old.index)) kept.counted; moments = gone.moments };
         there = gone.there;
       }
 
@@ -88,7 +89,7 @@ module _ (old : code.Engine) (kept : IsKept old) where
           query = refl;
           choices_are = pushed_choices old.heap.changes olds news (links_held (reverse old.points.items)) old.query (as_points old.index old.notes.items old.points.items) (λ j le. pushed.stay j (omega (arith, le))) (all_held old kept);
           tasks = λ j le. pushed.stay j (omega (arith, le));
-          kept = record { in_range = kept.in_range; counted = kept.counted; moments = moments };
+          kept = record { in_range = kept.in_range; indexed = kept.indexed; counted = kept.counted; moments = moments };
           there = omega (arith, number, pushed.above);
         };
         first = pushed.first;
@@ -114,6 +115,7 @@ module _ (old : code.Engine) (kept : IsKept old) where
         tasks = λ j le. refl;
         kept = record {
           in_range = kept.in_range;
+          indexed = kept.indexed;
           counted = subst AreCounted (sym points_are) (below, kept.counted);
           moments = subst (Moments old.program.now old.query old.heap.changes (length old.notes.items) (reverse links)) (sym newest_first)
               (made old.program.now old.query old.heap.changes (length old.notes.items) (reverse links) p (reverse old.points.items) trail (links_are ∙ sym size) notes_are
@@ -134,7 +136,7 @@ module _ (old : code.Engine) (kept : IsKept old) where
         query = refl;
         choices_are = ap (choices_of old.heap.changes olds old.query) is ∙ cuts old.heap.changes olds old.query h (as_points old.index old.notes.items old.points.items) kept.counted;
         tasks = λ j le. refl;
-        kept = record { in_range = kept.in_range; counted = subst AreCounted (sym is) (counted h (as_points old.index old.notes.items old.points.items) kept.counted); moments = moments };
+        kept = record { in_range = kept.in_range; indexed = kept.indexed; counted = subst AreCounted (sym is) (counted h (as_points old.index old.notes.items old.points.items) kept.counted); moments = moments };
         there = omega arith;
       }
 
@@ -151,7 +153,7 @@ goes_exited old kept h new_points is moments =
       query = refl;
       choices_are = ap (choices_of old.heap.changes olds old.query) is ∙ exits old.heap.changes olds old.query h points kept.counted;
       tasks = λ j le. refl;
-      kept = record { in_range = kept.in_range; counted = subst AreCounted (sym is) (exit_counted h points kept.counted); moments = moments };
+      kept = record { in_range = kept.in_range; indexed = kept.indexed; counted = subst AreCounted (sym is) (exit_counted h points kept.counted); moments = moments };
       there = omega arith;
     }
 
@@ -159,7 +161,7 @@ goes_exited old kept h new_points is moments =
 pub points_rise : (e : code.Engine) → IsKept e → AreRising e.points.items
 points_rise e kept =
     subst AreRising (reverse-reverse e.points.items)
-    (rising e.program.now e.notes.items e.query e.heap.changes (length e.notes.items) (reverse e.links.items) (reverse e.points.items) kept.moments kept.counted)
+    (rising e.program.now e.index e.notes.items e.query e.heap.changes (length e.notes.items) (reverse e.links.items) (reverse e.points.items) kept.moments kept.counted)
 
 pub mark_is : (e : code.Engine) (h : ℕ) → IsKept e → mark_at_height h (as_points e.index e.notes.items e.points.items) ≡ mark_seen (mark_of (Some h) (choices_at e))
 mark_is e h kept = found_marks e.heap.changes (as_links e.notes.items e.links.items) e.query h (as_points e.index e.notes.items e.points.items) kept.counted

@@ -4,6 +4,7 @@ use Rattle.std.specs.Prelude.{if◌then◌else◌, slice_set}
 use Rattle.std.proofs.lemmas.Bool.{eq-eqb, ne_eqb}
 use Rattle.std.proofs.lemmas.List.{length-append, append_assoc, append-nil, reverse-append, map-append, take-append-drop, length-take-le, drop_more, get_or_at, set_at}
 use Rattle.std.specs.List.{AllByRecursion}
+use Rattle.clause_index.specs.declared.keys.Key.{Key}
 use Rattle.engine_state.specs.declared.points.ChoicePoint as code
 use Rattle.engine_state.specs.Engines.{ChoicePoint}
 use Rattle.engine_state.specs.Stacks.{no_mark, mark_in, mark_at_height, exited_alternative, exit_points}
@@ -89,7 +90,7 @@ module _ (height : ℕ) where
   reverse_elsewhere [] are = tt
   reverse_elsewhere (x ∷ xs) are = subst (AreElsewhere height) (sym (reverse-append (x ∷ []) xs)) (both_elsewhere (reverse xs) (x ∷ []) (reverse_elsewhere xs are.1) (are.0, tt))
 
-  module _ (notes : List ℕ) where
+  module _ (index : List (List Key)) (notes : List ℕ) where
     exit_past : (newer : List code.ChoicePoint) (rest : List ChoicePoint) → AreElsewhere height newer → exit_points height (map (as_point index notes) newer ++ rest) ≡ map (as_point index notes) newer ++ exit_points height rest
     exit_past [] rest are = refl
     exit_past (p ∷ newer) rest are =

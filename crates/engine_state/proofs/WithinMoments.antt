@@ -7,6 +7,7 @@ use Rattle.prog_data.specs.declared.goals.Goal.{Fail}
 use Rattle.prog_data.specs.declared.programs.Program.{Program}
 use Rattle.prog_data.specs.Ranges.{goal_step}
 use Rattle.prog_data.proofs.GoalFolds.{fold-Fail}
+use Rattle.clause_index.specs.declared.keys.Key.{Key}
 use Rattle.term_heap.specs.Changes.{Change, size_of, undone}
 use Rattle.engine_state.specs.declared.tasks.Task as code_task
 use Rattle.engine_state.specs.declared.tasks.Task.TheVariants as task
@@ -46,11 +47,11 @@ module _ (program : Program) (notes : List ℕ) where
       let parts : as_all links ≡ as_all (take n links) ++ older = ap as_all (sym (take-append-drop n links)) ∙ map-append (as_link notes) (take n links) (drop n links) in
       ap (λ ls. chain ls j) parts ∙ chain_older (as_all (take n links)) older j (omega (arith, size, le))
 
-  module _ (query : ℕ) (now : List Change) (all : List code_link.Link) where
+  module _ (index : List (List Key)) (query : ℕ) (now : List Change) (all : List code_link.Link) where
     pub alternative_within : (cells links : ℕ) (left : List code_link.Link) (a : code_alternative.Alternative) → AreLinksWithin cells (as_all left) → ((j : ℕ) → j ≤ links → chain (as_all all) j ≡ chain (as_all left) j) →
         IsAlternativePlaced program cells links a → IsAlternativeWithin cells (as_all all) (as_alternative index notes a)
     alternative_within cells links left (alternative.Resumes rest) are same is = subst (AreTasksWithin cells) (sym (same rest is)) (tasks_within.chained cells (as_all left) rest are)
-    alternative_within cells links left (alternative.Retries next end c) are same is = (is.0.within, subst (AreTasksWithin cells) (sym (same c.rest is.2)) (tasks_within.chained cells (as_all left) c.rest are))
+    alternative_within cells links left (alternative.Retries key next end c) are same is = (is.0.within, subst (AreTasksWithin cells) (sym (same c.rest is.2)) (tasks_within.chained cells (as_all left) c.rest are))
     alternative_within cells links left (alternative.Marks p conds exited) are same is = tt
 
     within_from : (changes : List Change) (used : ℕ) (links : List code_link.Link) (points : List code_point.ChoicePoint) → ((n : ℕ) → n ≤ length changes → undone n changes ≡ undone n now) →
@@ -73,5 +74,5 @@ pub moments_within : (program : Program) → MomentsWithin program
 moments_within program = record {
   tasks = task_within program;
   links_are = λ notes query changes used links points are. links_within program notes (size_of changes) used links (moment_now program query changes used links points are).1;
-  points_are = λ notes query changes used links points are. within_from program notes query changes links changes used links points (λ n le. refl) (λ j le. refl) are;
+  points_are = λ index notes query changes used links points are. within_from program notes index query changes links changes used links points (λ n le. refl) (λ j le. refl) are;
 }
