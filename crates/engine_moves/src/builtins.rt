@@ -14,6 +14,8 @@ mod numbers;
 mod unifying;
 mod writing;
 
+pub(crate) use kinds::end_cell;
+
 use effects::{Effect, effect_of};
 use engine_state::{Engine, Row, Setting, Stage, builtin_moves_law};
 use prog_data::{Builtin, Ending, Text};

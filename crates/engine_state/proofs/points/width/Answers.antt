@@ -9,4 +9,4 @@ returns-in-Retries c =
     let next = c.in-Retries.next in
     let end = c.in-Retries.end in
     let is : c.saturating_sub.result ≡ end - next = omega arith in
-    λ index notes. is ∙ sym (ap (λ a. width (as_alternative index notes a)) c.in-Retries.is ∙ length-left index c.in-Retries.field-2.exit.pred c.in-Retries.field-0 next end)
+    λ index notes. is ∙ sym (ap (λ a. width (as_alternative index notes a)) c.in-Retries.is ∙ length-left index c.in-Retries.field-3.exit.pred c.in-Retries.field-0 next end)
