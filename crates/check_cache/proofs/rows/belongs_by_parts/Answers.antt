@@ -1,5 +1,6 @@
 use Rattle.std.proofs.Common.{sym, ap, ◌∙◌}
 use Rattle.prog_data.specs.Membership.{belongs}
+use Rattle.check_cache.specs.declared.rows.Row.{Row}
 use Rattle.check_cache.proofs.RowLaws.{parts_there}
 use Rattle.check_cache.proofs.rows.belongs_by_parts.Goals as goal
 
@@ -10,6 +11,6 @@ row_tells-requires-clause-row c =
 pub returns-then-row_tells : goal.returns-then-row_tells
 returns-then-row_tells c =
     let g = c.args.grammar.now in
-    let row = record { name = c.in-Node.f; count = c.in-Node.count; first = c.in-Node.first } in
+    let row : Row = record { name = c.in-Node.f; count = c.in-Node.count; first = c.in-Node.first } in
     sym (c.rule_law.ensures g c.args.heap.now.changes c.args.name c.root-root.result row c.len-size.ensures.made c.root-root.ensures.place (sym c.cell.ensures ∙ c.in-Node.is) (c.row_tells.ensures c.if-row_tells.true))
     ∙ ap (λ t. belongs g t c.args.name) c.root-root.ensures.value
