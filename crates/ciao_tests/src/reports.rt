@@ -384,14 +384,14 @@ const CASES: [SetCase; 54] = [
         written: "checked d.pl:2 calls q/1\nchecked 1, check 0, false 0\n",
         status: 0,
     },
-    // a predicate of a library
+    // what a predicate of a library gives
     SetCase {
         files: &[(
             "c.pl",
             ":- module(c,[p/1]).\n:- use_module(library(lists)).\n:- success p(X) => list(X,int).\np(X) :- append([1],[2],X).\n",
         )],
         words: CHECK,
-        written: "check c.pl:3 success p/1\nchecked 0, check 1, false 0\n",
+        written: "checked c.pl:3 success p/1\nchecked 1, check 0, false 0\n",
         status: 0,
     },
     // a regular type of one's own before and behind

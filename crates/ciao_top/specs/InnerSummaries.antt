@@ -12,7 +12,6 @@ use Rattle.prog_data.specs.declared.events.Ending.{Ending}
 use Rattle.machine_model.specs.Run.{Run}
 use Rattle.machine_model.specs.Tests.{every_condition}
 use Rattle.machine_model.specs.Continues.{Left, Continues}
-use Rattle.run_report.specs.Summary.{answer_count}
 use Rattle.ciao_modules.specs.FileNames.{Word}
 use Rattle.work_gen.specs.Generated.{Generated}
 use Rattle.ciao_top.specs.WordsAccepted.{GenerateWords}
@@ -24,7 +23,7 @@ use Rattle.ciao_top.specs.FileSets.{HasQuery, generated_file, generated_files, g
 use Rattle.ciao_top.specs.Queries.{MeetsEntry}
 use Rattle.ciao_top.specs.Refused.{RunRefused}
 use Rattle.ciao_top.specs.Reports.{ReportAnswers}
-use Rattle.ciao_top.specs.Summaries.{SummaryAnswers}
+use Rattle.ciao_top.specs.Summaries.{answer_count, SummaryAnswers}
 use Rattle.ciao_top.specs.InnerAnswers.{IsProgramOf, GoesOn}
 
 -- reports and summaries

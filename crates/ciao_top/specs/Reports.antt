@@ -4,9 +4,9 @@ use Rattle.prog_data.specs.declared.programs.Program.{Program}
 use Rattle.prog_data.specs.declared.tables.Status.{Status}
 use Rattle.goal_transfer.specs.Tables.{Facts, Least}
 use Rattle.goal_transfer.specs.Statuses.{statuses_of}
-use Rattle.run_report.specs.Lines.{joined}
 use Rattle.run_report.specs.Report.{report_lines, report_status}
 use Rattle.ciao_modules.specs.FileNames.{Word}
+use Rattle.ciao_top.specs.Lines.{joined}
 
 -- the status of each condition of a program, by the least closed table
 pub record HasStatuses (program : Program) (statuses : List Status) : Type 0 where

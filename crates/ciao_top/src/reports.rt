@@ -2,10 +2,10 @@
 ghost use Rattle.std.specs.Prelude.{◌≡◌, true, IfOk, IfErr};
 ghost use Rattle.byte_io.specs.Outside.{Rose};
 ghost use Rattle.prog_data.specs.Programs.{IsProgram};
-ghost use Rattle.run_report.specs.Lines.{joined};
 ghost use Rattle.ciao_modules.specs.FileNames.{is_main_file};
 ghost use Rattle.ciao_modules.specs.LoadReads.{new_reads};
 ghost use Rattle.ciao_top.specs.WordsAccepted.{CheckFile};
+ghost use Rattle.ciao_top.specs.Lines.{joined};
 ghost use Rattle.ciao_top.specs.Reports.{HasStatuses, ReportAnswers};
 ghost use Rattle.ciao_top.specs.Answers.{output_of};
 ghost use Rattle.ciao_top.specs.InnerAnswers.{DeviceGoesOn, Comes, Only, Stops, CommandReads};

@@ -1,11 +1,13 @@
 // The summary of a generated module.
-ghost use Rattle.std.specs.Prelude.{◌≡◌, ◌≤◌, IfOk, IfErr, IsSome};
+ghost use Rattle.std.specs.Prelude.{◌≡◌, ◌≤◌, ◌++◌, IfOk, IfErr, OnOk, IsSome, decimal, string_bytes};
 ghost use Rattle.prog_data.specs.Programs.{IsProgram};
 ghost use Rattle.prog_data.specs.Goals.{called_by};
 ghost use Rattle.sld_engine.specs.Runs.{left_of, program_of, bound_of, reading_of};
-ghost use Rattle.run_report.specs.Lines.{joined};
+ghost use Rattle.run_report.specs.Report.{count_line};
+ghost use Rattle.run_report.specs.RunText.{ending_text};
 ghost use Rattle.ciao_top.specs.WordsTable.{most_generated};
-ghost use Rattle.ciao_top.specs.Summaries.{SummaryAnswers};
+ghost use Rattle.ciao_top.specs.Lines.{joined};
+ghost use Rattle.ciao_top.specs.Summaries.{generated_line, answers_line, summary_lines, SummaryAnswers};
 ghost use Rattle.ciao_top.specs.InnerAnswers.{generate_words, IsPrepared};
 ghost use Rattle.ciao_top.specs.InnerSummaries.{IsGenerated, IsSummarised, SummaryStops, HoldAlone, HoldGenerated, CountsTo, counting_behind, IsCounted, HasCounted};
 
@@ -14,9 +16,11 @@ use crate::reports::{ToWrite, statuses};
 use crate::stops::Stop;
 use crate::words::{GenerateCommand, RunCommand};
 use byte_io::MemFiles;
-use prog_data::{Ending, Event};
-use run_report::{ending_status, summary_text};
+use itoa::Buffer;
+use prog_data::{Ending, Event, Program, Status, Text};
+use run_report::{ending_status, event_text, report_text};
 use sld_engine::{Reading, Run};
+use sqlite_items::Items;
 use std::alloc::Global;
 use term_core::NoMemory;
 use work_gen::make_module;
@@ -130,6 +134,74 @@ fn count_run(alloc: Global, prepared: &Prepared, bound: u64) -> Result<Counted, 
     count_all(&mut run)
 }
 
+// Appends a number in decimal.
+fn push_number(number: u64, out: &mut String) -> Result<(), NoMemory>
+    ensures { OnOk result (string_bytes out.new ≡ string_bytes out.old ++ decimal number) }
+{
+    let mut digits = Buffer::new();
+    out.push_str(digits.format(number))?;
+    Ok(())
+}
+
+// The line of the number of a module and of how many predicates it has.
+fn generated_line(alloc: Global, number: u64, count: u64) -> Result<Text, NoMemory>
+    ensures { IfOk result (λ text. text ≡ generated_line number count) }
+{
+    let mut text = String::from_str(alloc, "generated: ")?;
+    push_number(number, &mut text)?;
+    text.push_str(" ")?;
+    push_number(count, &mut text)?;
+    text.push_str("\n")?;
+    Ok(Text::new(text))
+}
+
+// The line of the number of answers.
+fn answers_line(alloc: Global, answers: u64) -> Result<Text, NoMemory>
+    ensures { IfOk result (λ text. text ≡ answers_line answers) }
+{
+    let mut text = String::from_str(alloc, "answers: ")?;
+    push_number(answers, &mut text)?;
+    text.push_str("\n")?;
+    Ok(Text::new(text))
+}
+
+// The last line of the report.
+fn count_line(alloc: Global, program: &Program, statuses: &[Status]) -> Result<Text, NoMemory>
+    ensures { IfOk result (λ text. text ≡ count_line program.now statuses.now) }
+{
+    let mut lines = report_text(alloc, program, statuses)?;
+    match lines.pop() {
+        Some(line) => Ok(line),
+        None => unreachable!(),
+    }
+}
+
+// The line of an ending.
+fn ending_line(alloc: Global, program: &Program, ending: Ending) -> Result<Text, NoMemory>
+    ensures { IfOk result (λ text. text ≡ ending_text program.now ending) }
+{
+    let event = Event::End(ending);
+    Ok(Text::new(event_text(alloc, program, &event)?))
+}
+
+// The summary, line by line.
+fn summary_lines(
+    alloc: Global,
+    made: GenerateCommand,
+    program: &Program,
+    statuses: &[Status],
+    counted: Counted,
+) -> Result<Items<Text>, NoMemory>
+    ensures { IfOk result (λ lines. lines ≡ summary_lines (generate_words made) program.now statuses.now counted.answers counted.ending) }
+{
+    let mut lines = Items::new(alloc);
+    lines.push(generated_line(alloc, made.number, made.count)?)?;
+    lines.push(count_line(alloc, program, statuses)?)?;
+    lines.push(answers_line(alloc, counted.answers)?)?;
+    lines.push(ending_line(alloc, program, counted.ending)?)?;
+    Ok(lines)
+}
+
 // The summary of a generated module, of which this is the program and the query.
 fn summary(alloc: Global, made: GenerateCommand, prepared: &Prepared) -> Result<ToWrite, NoMemory>
     requires program { IsProgram prepared.now.program }
@@ -139,16 +211,8 @@ fn summary(alloc: Global, made: GenerateCommand, prepared: &Prepared) -> Result<
     let program = &prepared.program;
     let statuses = statuses(alloc, program)?;
     let counted = count_run(alloc, prepared, made.steps)?;
-    let lines = summary_text(
-        alloc,
-        program,
-        statuses.as_slice(),
-        made.number,
-        made.count,
-        counted.answers,
-        &counted.ending,
-    )?;
     let status = ending_status(&counted.ending);
+    let lines = summary_lines(alloc, made, program, statuses.as_slice(), counted)?;
     Ok(ToWrite { lines, status })
 }
 

@@ -2,7 +2,6 @@ pub mod Lines
 pub mod RunText
 pub mod Refusals
 pub mod Report
-pub mod Summary
 pub mod ClauseTerms
 pub mod TermLaws
 pub mod Expansion

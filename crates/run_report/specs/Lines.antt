@@ -1,6 +1,6 @@
 -- Lines, and what stands in several of them.
 -- The headline does not rest on this file.
-use Rattle.std.specs.Prelude.{ℕ, true, List, [], ◌∷◌, ◌++◌, flat_map, codes, decimal}
+use Rattle.std.specs.Prelude.{ℕ, true, List, [], ◌∷◌, ◌++◌, codes, decimal}
 use Rattle.std.specs.Str.{byte}
 use Rattle.term_core.specs.Names.{name_text}
 use Rattle.term_core.specs.Printing.{Printed}
@@ -17,10 +17,6 @@ use Rattle.prog_data.specs.Goals.{pred_of}
 -- a line: its text and a line feed
 abbrev pub line : List ℕ → List ℕ
 line text = text ++ byte "\n" ∷ []
-
--- lines, one after another
-abbrev pub joined : List (List ℕ) → List ℕ
-joined lines = flat_map (λ text. text) lines
 
 -- the word for the kind of a condition
 abbrev pub condition_word : CondKind → List ℕ

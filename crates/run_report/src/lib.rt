@@ -1,4 +1,4 @@
-//! The texts of runs, refusals, reports, summaries and expansions.
+//! The texts of runs, refusals, reports and expansions.
 #![tactic(auto)]
 
 mod clause_terms;
@@ -9,7 +9,6 @@ mod modules;
 mod refusals;
 mod report;
 mod runs;
-mod summary;
 
 pub use clause_terms::builtin_names_law;
 pub use expansion::expand_text;
@@ -17,4 +16,3 @@ pub use kept::kept_conditions_law;
 pub use refusals::refusal_text;
 pub use report::{report_status, report_text};
 pub use runs::{ending_status, event_text, query_text};
-pub use summary::summary_text;

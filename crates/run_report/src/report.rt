@@ -143,8 +143,8 @@ fn numbers_line(alloc: Global, checked: u64, check: u64, broken: u64) -> Result<
     Ok(text)
 }
 
-/// The last line.
-pub(crate) fn count_line(alloc: Global, program: &Program, statuses: &[Status]) -> Result<String, NoMemory>
+// The last line.
+fn count_line(alloc: Global, program: &Program, statuses: &[Status]) -> Result<String, NoMemory>
     ensures { IfOk result (λ text. string_bytes text ≡ count_line program.now statuses.now) }
 {
     let claims = program.claims.as_slice();

@@ -81,8 +81,8 @@ fn arithmetic_text(
     Ok(text)
 }
 
-/// The line of an ending.
-pub(crate) fn ending_text(alloc: Global, program: &Program, ending: &Ending) -> Result<String, NoMemory>
+// The line of an ending.
+fn ending_text(alloc: Global, program: &Program, ending: &Ending) -> Result<String, NoMemory>
     ensures { IfOk result (λ text. string_bytes text ≡ ending_text program.now ending.now) }
 {
     match ending {
