@@ -8,7 +8,8 @@ use Rattle.term_core.specs.declared.terms.Term.{Term}
 use Rattle.prog_data.specs.declared.programs.Program.{Program}
 use Rattle.ciao_modules.specs.FileNames.{Word}
 use Rattle.ciao_modules.specs.LoadReads.{Agree, new_reads}
-use Rattle.ciao_top.specs.WordsAccepted.{RunWords, AcceptedWords}
+use Rattle.std.specs.Option.{option_and_then}
+use Rattle.ciao_top.specs.WordsAccepted.{RunWords, GenerateWords, Command, RunQuery, GenerateModule, AcceptedWords, read_by, file_read_for}
 use Rattle.ciao_top.specs.declared.stops.Reason.{Reason}
 use Rattle.ciao_top.specs.declared.stops.Reason.TheVariants as reason
 use Rattle.ciao_top.specs.declared.stops.Stop.{Stop}
@@ -19,15 +20,16 @@ use Rattle.ciao_top.specs.Refused.{Refuses, NoCommand, OfCommand}
 use Rattle.ciao_top.specs.Limits.{RunAnswers}
 use Rattle.ciao_top.specs.Lines.{reason_text, reason_status, read_fault, stop_text, stop_status}
 use Rattle.ciao_top.specs.Relied.{Relied}
-use Rattle.ciao_top.specs.Answers.{Defined, Refused, Runs, Output, with_piece, ReadsOnly, Nothing, OfLoad, IsUnread, IsPrefix, Answered, Complete}
+use Rattle.ciao_top.specs.Answers.{CommandAnswers, Defined, Refused, Answers, Output, with_piece, ReadsOnly, Nothing, OfLoad, IsUnread, IsPrefix, Answered, Complete}
 use Rattle.ciao_top.specs.InnerAnswers.{Only, HasBegun, Comes, Whole, SinkFailed, MemoryWanted, Stops, CommandReads}
 use Rattle.ciao_top.proofs.FileLaws.{none_new, none_distinct, all_held}
-use Rattle.ciao_top.proofs.Refusals.{same_some, one_prepared, one_refusal, none_accepted, run_words_not_refused}
-use Rattle.ciao_top.proofs.Statuses.{apart, above, reason_small, reason_two, of_limited, small_or_fault}
+use Rattle.ciao_top.proofs.Answers.{one_command_answer}
+use Rattle.ciao_top.proofs.Refusals.{same_some, one_prepared, one_refusal, none_accepted, words_not_refused, run_words_not_refused}
+use Rattle.ciao_top.proofs.Statuses.{apart, above, reason_small, reason_two, of_command, small_or_fault}
 
 -- the reads of a call, and files that agree with them
 pub record AreReads (held : Option Held) (words : List Word) (reads : List FileRead) : Type 0 where
-  pub only : ReadsOnly words reads
+  pub only : ReadsOnly (file_read_for words) reads
   pub once : IsDistinct bytes_eq (map (λ read. read.name) reads)
   pub files : Held
   pub agree : Agree reads files
@@ -105,7 +107,7 @@ module _ (relied : Relied) (held : Option Held) (words : List Word) (reads : Lis
   from_refused : (files : Held) (why : Reason) → Refuses files words why → (text : Word) (status : ℕ) → Defined files words text status → Only (reason_text why) (reason_status why) text status
   from_refused files why refused text status (Refused other refused' l r) =
       let same = one_refusal relied files words other why refused' refused in (l ∙ ap reason_text same, r ∙ ap reason_status same)
-  from_refused files why refused text status (Runs command is p q has meets a) = absurd (run_words_not_refused relied files words command is why p q refused has meets)
+  from_refused files why refused text status (Answers command is a) = absurd (words_not_refused relied files words command is why text status refused a)
 
   pub refused_answers : (why : Reason) → ((files : Held) → Agree reads files → Refuses files words why) → Comes (Only (reason_text why) (reason_status why)) writing old new result
       → Answered held words reads reading writing old new result
@@ -119,30 +121,38 @@ module _ (relied : Relied) (held : Option Held) (words : List Word) (reads : Lis
       })
       (record { to = λ files agree t s d. Refused why (refused files agree) d.0 d.1; from = λ files agree t s d. from_refused files why (refused files agree) t s d }) comes
 
-  module _ (command : RunWords) (is : AcceptedWords words ≡ Some command) where
-    -- words that run
+  module _ (command : Command) (is : AcceptedWords words ≡ Some command) where
+    -- commands that are not refused
 
-    from_run : (files : Held) (p : Program) (q : Term) → HasQuery files command p q → MeetsEntry p q → (text : Word) (status : ℕ) → Defined files words text status → RunAnswers p q command.steps command.answers text status
-    from_run files p q has meets text status (Refused why refused l r) = absurd (run_words_not_refused relied files words command is why p q refused has meets)
-    from_run files p q has meets text status (Runs command' is' p' q' has' meets' a) =
-        let same = same_some command' command (AcceptedWords words) is' is in
-        let one = one_prepared relied files command p' p q' q (subst (λ c. HasQuery files c p' q') same has') has in
-        subst (λ x. RunAnswers p x command.steps command.answers text status) one.1
-        (subst (λ x. RunAnswers x q' command.steps command.answers text status) one.0 (subst (λ (c : RunWords). RunAnswers p' q' c.steps c.answers text status) same a))
-
-    pub run_answers : (p : Program) (q : Term) → ((files : Held) → Agree reads files → HasQuery files command p q) → MeetsEntry p q → Comes (RunAnswers p q command.steps command.answers) writing old new result
-        → Answered held words reads reading writing old new result
-    run_answers p q has meets comes =
-        answered (RunAnswers p q command.steps command.answers)
+    -- a definition that has the answers of a command for all files that agree with the reads, of which it has one
+    pub command_answers : (D : Word → ℕ → Type 0) → ((files : Held) → Agree reads files → (text : Word) (status : ℕ) → D text status → CommandAnswers files command text status)
+        → ((files : Held) → Agree reads files → (text : Word) (status : ℕ) → CommandAnswers files command text status → D text status)
+        → ((files : Held) → Agree reads files → (why : Reason) → Refuses files words why → ⊥)
+        → Comes D writing old new result → Answered held words reads reading writing old new result
+    command_answers D to from unrefused comes =
+        answered D
         (record {
-          small = λ t s d. (of_limited command.answers d.events d.ending s d.status_is).small;
-          refused = λ t s d two. absurd ((of_limited command.answers d.events d.ending s d.status_is).not_two two);
+          small = λ t s d. (of_command are.files command t s (to are.files are.agree t s d)).small;
+          refused = λ t s d two. absurd ((of_command are.files command t s (to are.files are.agree t s d)).not_two two);
           not_accepted = λ t s d none. absurd (none-some command (sym none ∙ is));
         })
-        (record { to = λ files agree t s d. Runs command is p q (has files agree) meets d; from = λ files agree t s d. from_run files p q (has files agree) meets t s d }) comes
+        (record { to = λ files agree t s d. Answers command is (to files agree t s d); from = λ files agree t s d. back files agree t s d }) comes
+      where
+        back : (files : Held) → Agree reads files → (text : Word) (status : ℕ) → Defined files words text status → D text status
+        back files agree text status (Refused why refused l r) = absurd (unrefused files agree why refused)
+        back files agree text status (Answers other is' a) = from files agree text status (subst (λ c. CommandAnswers files c text status) (same_some other command (AcceptedWords words) is' is) a)
+
+    -- one text and one status
+    pub lines_answer : (text : Word) (status : ℕ) → ((files : Held) → Agree reads files → CommandAnswers files command text status) → Comes (Only text status) writing old new result
+        → Answered held words reads reading writing old new result
+    lines_answer text status here comes =
+        command_answers (Only text status)
+        (λ files agree t s d. subst (λ x. CommandAnswers files command x s) (sym d.0) (subst (λ x. CommandAnswers files command text x) (sym d.1) (here files agree)))
+        (λ files agree t s d. one_command_answer relied files command t text s status d (here files agree))
+        (λ files agree why refused. words_not_refused relied files words command is why text status refused (here files agree)) comes
 
     -- a file that could not be read
-    unreadable : (name : Word) → IsUnread words reads name → reading → Comes (Only (read_fault name) 7) writing old new result → Answered held words reads reading writing old new result
+    unreadable : (name : Word) → IsUnread (file_read_for words) reads name → reading → Comes (Only (read_fault name) 7) writing old new result → Answered held words reads reading writing old new result
     unreadable name told rose (Whole text d grew) = record {
       statuses = omega (d.1, arith);
       refused = λ two. absurd (apart 2 7 (omega arith) (sym two ∙ d.1));
@@ -215,17 +225,29 @@ module _ (relied : Relied) (held : Option Held) (words : List Word) (reads : Lis
     no_memory (SinkFailed e rose b) = nothing 8 (omega arith) (omega arith) (λ _. rose) e b
     no_memory (MemoryWanted e b) = nothing 9 (omega arith) (omega arith) (λ e. absurd (apart 8 9 (omega arith) (sym e))) e b
 
-    -- a command that is not run
+    -- a command that is not carried out
     pub stopped : (stop : Stop) → Stops command reads reading stop → Comes (Only (stop_text stop) (stop_status stop)) writing old new result → Answered held words reads reading writing old new result
     stopped (stop.Refused why) s comes = refused_answers why (λ files agree. OfCommand command is why (s files agree)) comes
-    stopped (stop.Unreadable name) s comes = unreadable name (record { command = command; accepted = is; last = s.1; reached = s.2 }) s.0 comes
+    stopped (stop.Unreadable name) s comes =
+        unreadable name (record { main = s.1.main; is = ap (option_and_then read_by) is ∙ s.1.is; last = s.1.last; reached = s.1.reached }) s.0 comes
     stopped stop.NoMemory s comes = no_memory comes
+
+  -- a run
+  pub run_answers : (run : RunWords) → AcceptedWords words ≡ Some (RunQuery run) → (p : Program) (q : Term) → ((files : Held) → Agree reads files → HasQuery files run p q) → MeetsEntry p q
+      → Comes (RunAnswers p q run.steps run.answers) writing old new result → Answered held words reads reading writing old new result
+  run_answers run is p q has meets comes =
+      command_answers (RunQuery run) is (RunAnswers p q run.steps run.answers)
+      (λ files agree t s d. record { program = p; query = q; has = has files agree; meets = meets; answers = d })
+      (λ files agree t s d.
+      let one = one_prepared relied files run d.program p d.query q d.has (has files agree) in
+      subst (λ x. RunAnswers p x run.steps run.answers t s) one.1 (subst (λ x. RunAnswers x d.query run.steps run.answers t s) one.0 d.answers))
+      (λ files agree why refused. run_words_not_refused relied files words run is why p q refused (has files agree) meets) comes
 
 -- the reads of a call
 
 -- none
-pub no_command_reads : (held : Option Held) (words : List Word) (old : List FileRead) → AcceptedWords words ≡ None → AreReads held words (new_reads old old)
-no_command_reads held words old none =
+pub none_read : (held : Option Held) (words : List Word) (old : List FileRead) → file_read_for words ≡ None → AreReads held words (new_reads old old)
+none_read held words old none =
     let nil = none_new old in
     record {
       only = Nothing none nil;
@@ -235,10 +257,17 @@ no_command_reads held words old none =
       told_agree = all_held held (λ files. subst (λ reads. Agree reads files) (sym nil) tt);
     }
 
+-- where the words are no command, or one that reads no file
+pub no_command_reads : (held : Option Held) (words : List Word) (old : List FileRead) → AcceptedWords words ≡ None → AreReads held words (new_reads old old)
+no_command_reads held words old none = none_read held words old (ap (option_and_then read_by) none)
+
+pub generate_reads : (held : Option Held) (words : List Word) (made : GenerateWords) (old : List FileRead) → AcceptedWords words ≡ Some (GenerateModule made) → AreReads held words (new_reads old old)
+generate_reads held words made old is = none_read held words old (ap (option_and_then read_by) is)
+
 -- those of a command
-pub command_reads : (held : Option Held) (words : List Word) (command : RunWords) (old new : List FileRead) → AcceptedWords words ≡ Some command → CommandReads held command old new → AreReads held words (new_reads old new)
-command_reads held words command old new is r = record {
-  only = OfLoad command is r.order;
+pub command_reads : (held : Option Held) (words : List Word) (command : Command) (main : Word) (old new : List FileRead) → AcceptedWords words ≡ Some command → read_by command ≡ Some main → CommandReads held main old new → AreReads held words (new_reads old new)
+command_reads held words command main old new is first r = record {
+  only = OfLoad main (ap (option_and_then read_by) is ∙ first) r.order;
   once = r.once;
   files = r.files;
   agree = r.agree;

@@ -21,7 +21,7 @@ use Rattle.ciao_modules.specs.declared.units.Unit.{Unit}
 use Rattle.ciao_modules.specs.declared.units.LoadFault.{LoadFault}
 use Rattle.ciao_modules.specs.declared.units.LoadFault.TheVariants as load
 use Rattle.program_link.specs.Linked as link
-use Rattle.ciao_top.specs.WordsAccepted.{RunWords}
+use Rattle.ciao_top.specs.WordsAccepted.{RunWords, RunQuery, CheckFile}
 use Rattle.ciao_top.specs.declared.prepare.Prepared.{Prepared}
 use Rattle.ciao_top.specs.declared.stops.Reason.{Reason}
 use Rattle.ciao_top.specs.declared.stops.Reason.TheVariants as reason
@@ -29,8 +29,8 @@ use Rattle.ciao_top.specs.declared.stops.Stop.{Stop}
 use Rattle.ciao_top.specs.declared.stops.Stop.TheVariants as stop
 use Rattle.ciao_top.specs.FileSets.{HasProgram, HasQuery}
 use Rattle.ciao_top.specs.Queries.{main_operators}
-use Rattle.ciao_top.specs.Refused.{FilesRefused, NotLoaded, NotLinked, CommandRefused, OfFiles, Unread, NotExported, NoEntry}
-use Rattle.ciao_top.specs.InnerAnswers.{RefusalStops, FailedStops, LoadStops, LinkStops, HasQueryOf, CallFaults, QueryFaults, QueryStops, HasQueryIn, UnitStops, Stops, IsPrepared, CommandReads}
+use Rattle.ciao_top.specs.Refused.{FilesRefused, NotLoaded, NotLinked, RunRefused, OfFiles, Unread, NotExported, NoEntry}
+use Rattle.ciao_top.specs.InnerAnswers.{RefusalStops, FailedStops, LoadStops, LinkStops, HasQueryOf, CallFaults, QueryFaults, QueryStops, HasQueryIn, UnitStops, Stops, IsPrepared, AreLoaded, IsProgramOf, CommandReads}
 
 -- the reads
 
@@ -62,12 +62,12 @@ pub none_distinct : IsDistinct bytes_eq []
 unfolding IsDistinct
 none_distinct = tt
 
-pub no_reads : (held : Option Held) (command : RunWords) (old : List FileRead) → CommandReads held command old old
-no_reads held command old =
+pub no_reads : (held : Option Held) (main : Word) (old : List FileRead) → CommandReads held main old old
+no_reads held main old =
     let nil = none_new old in
     record {
       follow = none_follow old;
-      order = λ files agree. (Err load.NoMemory, subst (AreLoadReads files command.file fixed_names (Err load.NoMemory)) (sym nil) (not_begun files command.file));
+      order = λ files agree. (Err load.NoMemory, subst (AreLoadReads files main fixed_names (Err load.NoMemory)) (sym nil) (not_begun files main));
       once = subst (λ reads. IsDistinct bytes_eq (map (λ (r : FileRead). r.name) reads)) (sym nil) none_distinct;
       files = λ name. None;
       agree = subst (λ reads. Agree reads (λ name. None)) (sym nil) tt;
@@ -75,23 +75,23 @@ no_reads held command old =
     }
 
 -- those of a load
-pub load_reads : (held : Option Held) (command : RunWords) (names : List Word) (result : Result (List Unit) LoadFault) (old new : List FileRead) → names ≡ fixed_names → new ≡ old ++ new_reads old new
-    → ((files : Held) → Agree (new_reads old new) files → AreLoadReads files command.file names result (new_reads old new)) → ReadsTell held (new_reads old new) → CommandReads held command old new
-load_reads held command names result old new same follow order tell = record {
+pub load_reads : (held : Option Held) (main : Word) (names : List Word) (result : Result (List Unit) LoadFault) (old new : List FileRead) → names ≡ fixed_names → new ≡ old ++ new_reads old new
+    → ((files : Held) → Agree (new_reads old new) files → AreLoadReads files main names result (new_reads old new)) → ReadsTell held (new_reads old new) → CommandReads held main old new
+load_reads held main names result old new same follow order tell = record {
   follow = follow;
-  order = λ files agree. (result, subst (λ ns. AreLoadReads files command.file ns result (new_reads old new)) same (order files agree));
+  order = λ files agree. (result, subst (λ ns. AreLoadReads files main ns result (new_reads old new)) same (order files agree));
   once = tell.once;
   files = tell.files;
   agree = tell.agree;
   told_agree = tell.told_agree;
 }
 
-module _ (command : RunWords) (reads : List FileRead) (reading : Type 0) where
+module _ (main : Word) (reads : List FileRead) (reading : Type 0) where
   -- files that are not loaded
 
-  refusal_stops : (names : List Word) (refusal : Refusal) (s : Stop) → ((files : Held) → Agree reads files → (line : Word) → RefusalStops names refusal (stop.Refused (reason.OfFiles line)) → FilesRefused files command line)
-      → RefusalStops names refusal s → Stops command reads reading s
-  refusal_stops names refusal (stop.Refused (reason.OfFiles line)) refused a = λ files agree. OfFiles line (refused files agree line a)
+  refusal_stops : (names : List Word) (refusal : Refusal) (s : Stop) → ((files : Held) → Agree reads files → (line : Word) → RefusalStops names refusal (stop.Refused (reason.OfFiles line)) → FilesRefused files main line)
+      → RefusalStops names refusal s → Stops (CheckFile main) reads reading s
+  refusal_stops names refusal (stop.Refused (reason.OfFiles line)) refused a = λ files agree. refused files agree line a
   refusal_stops names refusal (stop.Refused reason.NoCommand) refused a = absurd a
   refusal_stops names refusal (stop.Refused reason.QueryUnread) refused a = absurd a
   refusal_stops names refusal (stop.Refused reason.QueryNotExported) refused a = absurd a
@@ -99,27 +99,31 @@ module _ (command : RunWords) (reads : List FileRead) (reading : Type 0) where
   refusal_stops names refusal (stop.Unreadable name) refused a = absurd a
   refusal_stops names refusal stop.NoMemory refused a = tt
 
-  failed_stops : (after : List Word) (file : ℕ) (s : Stop) → IsLoadFault reads command.file fixed_names after reading (load.Failed file) → FailedStops after file s → Stops command reads reading s
+  failed_stops : (after : List Word) (file : ℕ) (s : Stop) → IsLoadFault reads main fixed_names after reading (load.Failed file) → FailedStops after file s → Stops (CheckFile main) reads reading s
   failed_stops after file (stop.Unreadable name) a b = (
     a.0,
-    subst (λ n. IsLastFailed (folder_of command.file ++ n) reads) (sym b) a.1,
-    λ files agree. record { names = after; file = file; reached = a.2 files agree; name_is = b },
+    record {
+      main = main;
+      is = refl;
+      last = subst (λ n. IsLastFailed (folder_of main ++ n) reads) (sym b) a.1;
+      reached = λ files agree. record { names = after; file = file; reached = a.2 files agree; name_is = b };
+    },
   )
   failed_stops after file (stop.Refused why) a b = absurd b
   failed_stops after file stop.NoMemory a b = tt
 
-  pub load_stops : (names after : List Word) (fault : LoadFault) (s : Stop) → names ≡ fixed_names → IsLoadFault reads command.file names after reading fault → LoadStops after fault s → Stops command reads reading s
-  load_stops names after fault s same a b = by fault (subst (λ ns. IsLoadFault reads command.file ns after reading fault) same a) b
+  pub load_stops : (names after : List Word) (fault : LoadFault) (s : Stop) → names ≡ fixed_names → IsLoadFault reads main names after reading fault → LoadStops after fault s → Stops (CheckFile main) reads reading s
+  load_stops names after fault s same a b = by fault (subst (λ ns. IsLoadFault reads main ns after reading fault) same a) b
     where
-      by : (f : LoadFault) → IsLoadFault reads command.file fixed_names after reading f → LoadStops after f s → Stops command reads reading s
+      by : (f : LoadFault) → IsLoadFault reads main fixed_names after reading f → LoadStops after f s → Stops (CheckFile main) reads reading s
       by (load.Refused refusal) a b = refusal_stops after refusal s (λ files agree line told. NotLoaded after refusal (a files agree) told) b
       by (load.Failed file) a b = failed_stops after file s a b
-      by load.NoMemory a b = subst (Stops command reads reading) (sym b) tt
+      by load.NoMemory a b = subst (Stops (CheckFile main) reads reading) (sym b) tt
 
   -- units that were loaded
-  module _ (names : List Word) (units : List Unit) (loaded : (files : Held) → Agree reads files → Loaded files command.file fixed_names names units) where
-    link_stops : (s : Stop) → LinkStops names units s → Stops command reads reading s
-    link_stops (stop.Refused (reason.OfFiles line)) a = λ files agree. OfFiles line (NotLinked names units a.0 (loaded files agree) a.1 a.2)
+  module _ (names : List Word) (units : List Unit) (loaded : AreLoaded reads main names units) where
+    pub link_stops : (s : Stop) → LinkStops names units s → Stops (CheckFile main) reads reading s
+    link_stops (stop.Refused (reason.OfFiles line)) a = λ files agree. NotLinked names units a.0 (loaded files agree) a.1 a.2
     link_stops (stop.Refused reason.NoCommand) a = absurd a
     link_stops (stop.Refused reason.QueryUnread) a = absurd a
     link_stops (stop.Refused reason.QueryNotExported) a = absurd a
@@ -127,43 +131,70 @@ module _ (command : RunWords) (reads : List FileRead) (reading : Type 0) where
     link_stops (stop.Unreadable name) a = absurd a
     link_stops stop.NoMemory a = tt
 
-    module _ (before : Program) (is : link.linked names units ≡ link.Linked before) where
-      has_program : (files : Held) → Agree reads files → HasProgram files command before (main_operators units)
-      has_program files agree = record { names = names; units = units; loaded = loaded files agree; linked_is = is; ops_are = refl }
+    pub program_of : (program : Program) → link.linked names units ≡ link.Linked program → (files : Held) → Agree reads files → HasProgram files main program (main_operators units)
+    program_of program is files agree = record { names = names; units = units; loaded = loaded files agree; linked_is = is; ops_are = refl }
 
-      has_query : (files : Held) → Agree reads files → (program : Program) (query : Term) → HasQueryOf before (main_operators units) command.query program query → HasQuery files command program query
+    -- what the call answers
+    pub link_err : (answer : Result Program Stop) → IfErr answer (LinkStops names units) → IfErr answer (Stops (CheckFile main) reads reading)
+    link_err (Ok program) a = tt
+    link_err (Err s) a = link_stops s a
+
+    pub link_ok : (answer : Result Program Stop) → IfOk answer (λ program. link.linked names units ≡ link.Linked program) → IfOk answer (IsProgramOf reads main)
+    link_ok (Ok program) a = (main_operators units, program_of program a)
+    link_ok (Err s) a = tt
+
+module _ (run : RunWords) (reads : List FileRead) (reading : Type 0) where
+  -- a run is stopped where its file is
+  pub run_stops : (s : Stop) → Stops (CheckFile run.file) reads reading s → Stops (RunQuery run) reads reading s
+  run_stops (stop.Refused (reason.OfFiles line)) a = λ files agree. OfFiles line (a files agree)
+  run_stops (stop.Refused reason.NoCommand) a = λ files agree. absurd (a files agree)
+  run_stops (stop.Refused reason.QueryUnread) a = λ files agree. absurd (a files agree)
+  run_stops (stop.Refused reason.QueryNotExported) a = λ files agree. absurd (a files agree)
+  run_stops (stop.Refused reason.QueryNoEntry) a = λ files agree. absurd (a files agree)
+  run_stops (stop.Unreadable name) a = a
+  run_stops stop.NoMemory a = tt
+
+  -- units that were loaded
+  module _ (names : List Word) (units : List Unit) (loaded : AreLoaded reads run.file names units) where
+    module _ (before : Program) (is : link.linked names units ≡ link.Linked before) where
+      has_program : (files : Held) → Agree reads files → HasProgram files run.file before (main_operators units)
+      has_program files agree = program_of run.file reads reading names units loaded before is files agree
+
+      has_query : (files : Held) → Agree reads files → (program : Program) (query : Term) → HasQueryOf before (main_operators units) run.query program query → HasQuery files run program query
       has_query files agree program query q = record { before = before; ops = main_operators units; has = has_program files agree; names = q.names; read = q.read; program_is = q.program_is }
 
-      query_faults : (why : Reason) → QueryFaults before (main_operators units) command.query why → (files : Held) → Agree reads files → CommandRefused files command why
+      query_faults : (why : Reason) → QueryFaults before (main_operators units) run.query why → (files : Held) → Agree reads files → RunRefused files run why
       query_faults reason.QueryUnread a files agree = Unread before (main_operators units) (has_program files agree) a
       query_faults reason.QueryNotExported a files agree = NotExported a.0 a.1 (has_query files agree a.0 a.1 a.2) a.3
       query_faults reason.QueryNoEntry a files agree = NoEntry a.0 a.1 (has_query files agree a.0 a.1 a.2) a.3.0 a.3.1 a.3.2
       query_faults reason.NoCommand a files agree = absurd a.3
       query_faults (reason.OfFiles line) a files agree = absurd a.3
 
-      query_stops : (s : Stop) → QueryStops before (main_operators units) command.query s → Stops command reads reading s
+      query_stops : (s : Stop) → QueryStops before (main_operators units) run.query s → Stops (RunQuery run) reads reading s
       query_stops (stop.Refused why) a = query_faults why a
       query_stops (stop.Unreadable name) a = absurd a
       query_stops stop.NoMemory a = tt
 
-    unit_stops : (s : Stop) → UnitStops names units command.query s → Stops command reads reading s
-    unit_stops s (inl a) = link_stops s a
+    unit_stops : (s : Stop) → UnitStops names units run.query s → Stops (RunQuery run) reads reading s
+    unit_stops s (inl a) = run_stops s (link_stops run.file reads reading names units loaded s a)
     unit_stops s (inr a) = query_stops a.0 a.1 s a.2
 
     -- what the call answers
-    pub units_err : (answer : Result Prepared Stop) → IfErr answer (UnitStops names units command.query) → IfErr answer (Stops command reads reading)
+    pub units_err : (answer : Result Prepared Stop) → IfErr answer (UnitStops names units run.query) → IfErr answer (Stops (RunQuery run) reads reading)
     units_err (Ok prepared) a = tt
     units_err (Err s) a = unit_stops s a
 
-    pub units_ok : (answer : Result Prepared Stop) → IfOk answer (λ p. HasQueryIn names units command.query p.program p.query) → IfOk answer (λ p. (files : Held) → Agree reads files → HasQuery files command p.program p.query)
+    pub units_ok : (answer : Result Prepared Stop) → IfOk answer (λ p. HasQueryIn names units run.query p.program p.query) → IfOk answer (λ p. (files : Held) → Agree reads files → HasQuery files run p.program p.query)
     units_ok (Ok prepared) a = λ files agree. has_query a.before a.linked_is files agree prepared.program prepared.query a.of
     units_ok (Err s) a = tt
 
 -- the units of a load, by the names that it began with
-pub loaded_from : (command : RunWords) (reads : List FileRead) (names before : List Word) (units seen : List Unit) → before ≡ fixed_names → seen ≡ units → ((files : Held) → Agree reads files → Loaded files command.file before names units)
-    → (files : Held) → Agree reads files → Loaded files command.file fixed_names names seen
-loaded_from command reads names before units seen same e loaded files agree =
-    subst (Loaded files command.file fixed_names names) (sym e) (subst (λ ns. Loaded files command.file ns names units) same (loaded files agree))
+pub loaded_from : (main : Word) (reads : List FileRead) (names before : List Word) (units : List Unit) → before ≡ fixed_names → ((files : Held) → Agree reads files → Loaded files main before names units) → AreLoaded reads main names units
+loaded_from main reads names before units same loaded files agree = subst (λ ns. Loaded files main ns names units) same (loaded files agree)
+
+-- the same units
+pub loaded_as : (main : Word) (reads : List FileRead) (names : List Word) (units seen : List Unit) → seen ≡ units → AreLoaded reads main names units → AreLoaded reads main names seen
+loaded_as main reads names units seen same loaded = subst (AreLoaded reads main names) (sym same) loaded
 
 -- a query that is read and is not to be run
 pub fault_of : (before : Program) (ops : Operators) (text : Word) (program : Program) (query : Term) (why : Reason) → HasQueryOf before ops text program query → CallFaults program query why → QueryFaults before ops text why

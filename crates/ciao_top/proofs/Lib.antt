@@ -2,7 +2,10 @@ mod Answers
 mod Comings
 mod Contracts
 mod FileLaws
+mod LeastLaws
 mod LimitLaws
+mod Counts
+mod SummaryLaws
 mod Numbers
 mod QueryLaws
 mod Refusals

@@ -1,4 +1,4 @@
--- A command over files is refused in one way, or has one program and one query that meets an entry; never both.
+-- A command over files is refused in one way, or has one program and, where it runs, one query that meets an entry; never both.
 use Rattle.std.proofs.Common.{◌≡◌, ℕ, List, ◌++◌, ◌∷◌, refl, ◌∙◌, sym, ap, subst, Option, Some, None, true, false, true≢false}
 use Rattle.std.specs.Prelude.{decimal}
 use Rattle.std.specs.Str.{byte}
@@ -17,13 +17,14 @@ use Rattle.ciao_modules.specs.FileNames.{Word}
 use Rattle.ciao_modules.specs.declared.units.Unit.{Unit}
 use Rattle.program_link.specs.Linked as link
 use Rattle.run_report.specs.Refusals.{fault_line, refusal_text}
-use Rattle.ciao_top.specs.WordsAccepted.{RunWords, AcceptedWords}
+use Rattle.ciao_top.specs.WordsAccepted.{RunWords, Command, RunQuery, CheckFile, GenerateModule, AcceptedWords}
 use Rattle.ciao_top.specs.declared.stops.Reason.{Reason}
 use Rattle.ciao_top.specs.declared.stops.Reason.TheVariants as reason
-use Rattle.ciao_top.specs.FileSets.{HasProgram, HasQuery}
+use Rattle.ciao_top.specs.FileSets.{HasProgram, HasQuery, generated_files, generated_run}
 use Rattle.ciao_top.specs.Relied.{Relied}
 use Rattle.ciao_top.specs.Queries.{main_operators, IsQuery, query_meets_entry, MeetsEntry}
-use Rattle.ciao_top.specs.Refused.{FilesRefused, NotLoaded, NotLinked, CommandRefused, OfFiles, Unread, NotExported, NoEntry, Refuses, NoCommand, OfCommand}
+use Rattle.ciao_top.specs.Refused.{FilesRefused, NotLoaded, NotLinked, RunRefused, CheckRefused, CommandRefused, OfFiles, Unread, NotExported, NoEntry, Refuses, NoCommand, OfCommand}
+use Rattle.ciao_top.specs.Answers.{CommandAnswers}
 use Rattle.ciao_top.proofs.QueryLaws.{operators_made, one_query}
 
 -- what an option has is one
@@ -49,126 +50,173 @@ same_line : (names others : List Word) (r s : Refusal) → name_text names r.pla
 same_line names others r s named same = ap (λ n. line_of n r) named ∙ ap (line_of (name_text others s.place.file)) same
 
 module _ (relied : Relied) where
-  module _ (held : Held) (command : RunWords) where
+  module _ (held : Held) (main : Word) where
     -- the link of the units that were loaded is one
     one_link : (names others : List Word) (us vs : List Unit) → us ≡ vs → names ≡ others → link.linked names us ≡ link.linked others vs
     one_link names others us vs same named = ap (λ ns. link.linked ns us) named ∙ ap (link.linked others) same
 
-    pub one_program : (p q : Program) (ops ops' : Operators) → HasProgram held command p ops → HasProgram held command q ops' → (p ≡ q) × (ops ≡ ops')
+    pub one_program : (p q : Program) (ops ops' : Operators) → HasProgram held main p ops → HasProgram held main q ops' → (p ≡ q) × (ops ≡ ops')
     one_program p q ops ops' a b =
-        let same = relied.load held command.file fixed_names a.names b.names a.units b.units a.loaded b.loaded in (
+        let same = relied.load held main fixed_names a.names b.names a.units b.units a.loaded b.loaded in (
           linked_one p q (link.linked b.names b.units) (sym (one_link a.names b.names a.units b.units same.0 same.1) ∙ a.linked_is) b.linked_is,
           a.ops_are ∙ ap main_operators same.0 ∙ sym b.ops_are,
         )
 
     -- files that have a program are not refused
-    program_not_refused : (p : Program) (ops : Operators) (line : Word) → HasProgram held command p ops → FilesRefused held command line → ⊥
-    program_not_refused p ops line a (NotLoaded names refusal refused is) = relied.unrefused held command.file fixed_names a.names names a.units refusal a.loaded refused
+    program_not_refused : (p : Program) (ops : Operators) (line : Word) → HasProgram held main p ops → FilesRefused held main line → ⊥
+    program_not_refused p ops line a (NotLoaded names refusal refused is) = relied.unrefused held main fixed_names a.names names a.units refusal a.loaded refused
     program_not_refused p ops line a (NotLinked names units refusal loaded not is) =
-        let same = relied.load held command.file fixed_names a.names names a.units units a.loaded loaded in
+        let same = relied.load held main fixed_names a.names names a.units units a.loaded loaded in
         not_both p refusal (link.linked names units) (sym (one_link a.names names a.units units same.0 same.1) ∙ a.linked_is) not
 
     -- files are refused with one line
-    one_line : (line other : Word) → FilesRefused held command line → FilesRefused held command other → line ≡ other
+    one_line : (line other : Word) → FilesRefused held main line → FilesRefused held main other → line ≡ other
     one_line line other (NotLoaded names r refused is) (NotLoaded others s refused' is') =
         is
-        ∙ same_line names others r s (relied.name held command.file fixed_names names others r s refused refused') (relied.refusal held command.file fixed_names names others r s refused refused')
+        ∙ same_line names others r s (relied.name held main fixed_names names others r s refused refused') (relied.refusal held main fixed_names names others r s refused refused')
         ∙ sym is'
-    one_line line other (NotLoaded names r refused is) (NotLinked others units s loaded not is') = absurd (relied.unrefused held command.file fixed_names others names units r loaded refused)
-    one_line line other (NotLinked names units r loaded not is) (NotLoaded others s refused' is') = absurd (relied.unrefused held command.file fixed_names names others units s loaded refused')
+    one_line line other (NotLoaded names r refused is) (NotLinked others units s loaded not is') = absurd (relied.unrefused held main fixed_names others names units r loaded refused)
+    one_line line other (NotLinked names units r loaded not is) (NotLoaded others s refused' is') = absurd (relied.unrefused held main fixed_names names others units s loaded refused')
     one_line line other (NotLinked names units r loaded not is) (NotLinked others vs s loaded' not' is') =
-        let same = relied.load held command.file fixed_names names others units vs loaded loaded' in
+        let same = relied.load held main fixed_names names others units vs loaded loaded' in
         let told = refused_one r s (link.linked others vs) (sym (one_link names others units vs same.0 same.1) ∙ not) not' in
         is ∙ ap (λ ns. refusal_text ns r) same.1 ∙ ap (refusal_text others) told ∙ sym is'
 
-    -- the same query of the same program
-    moved : (p q : Program) (ops ops' : Operators) → (p ≡ q) × (ops ≡ ops') → (names : List Word) (query : Term) → IsQuery ops p.names command.query names query → IsQuery ops' q.names command.query names query
-    moved p q ops ops' same names query read =
-        subst (λ o. IsQuery o q.names command.query names query) same.1 (subst (λ (x : Program). IsQuery ops x.names command.query names query) same.0 read)
-
     -- the operators of the main file can be made
-    ops_made : (p : Program) (ops : Operators) → HasProgram held command p ops → IsMade ops
-    ops_made p ops a = subst IsMade (sym a.ops_are) (operators_made a.units (relied.operators held command.file fixed_names a.names a.units a.loaded))
+    ops_made : (p : Program) (ops : Operators) → HasProgram held main p ops → IsMade ops
+    ops_made p ops a = subst IsMade (sym a.ops_are) (operators_made a.units (relied.operators held main fixed_names a.names a.units a.loaded))
 
-    pub one_prepared : (p q : Program) (t u : Term) → HasQuery held command p t → HasQuery held command q u → (p ≡ q) × (t ≡ u)
+  module _ (held : Held) (run : RunWords) where
+    -- the same query of the same program
+    moved : (p q : Program) (ops ops' : Operators) → (p ≡ q) × (ops ≡ ops') → (names : List Word) (query : Term) → IsQuery ops p.names run.query names query → IsQuery ops' q.names run.query names query
+    moved p q ops ops' same names query read =
+        subst (λ o. IsQuery o q.names run.query names query) same.1 (subst (λ (x : Program). IsQuery ops x.names run.query names query) same.0 read)
+
+    pub one_prepared : (p q : Program) (t u : Term) → HasQuery held run p t → HasQuery held run q u → (p ≡ q) × (t ≡ u)
     one_prepared p q t u a b =
-        let same = one_program a.before b.before a.ops b.ops a.has b.has in
-        let read = one_query relied.goal b.ops (ops_made b.before b.ops b.has) b.before.names command.query a.names b.names t u (moved a.before b.before a.ops b.ops same a.names t a.read) b.read in
+        let same = one_program held run.file a.before b.before a.ops b.ops a.has b.has in
+        let read = one_query relied.goal b.ops (ops_made held run.file b.before b.ops b.has) b.before.names run.query a.names b.names t u (moved a.before b.before a.ops b.ops same a.names t a.read) b.read in
         (a.program_is ∙ ap (with_names a.names) same.0 ∙ ap (λ ns. with_names ns b.before) read.0 ∙ sym b.program_is, read.1)
 
-    query_not_unread : (p q : Program) (ops : Operators) (t : Term) → HasProgram held command p ops → ((names : List Word) (query : Term) → IsQuery ops p.names command.query names query → ⊥) → HasQuery held command q t → ⊥
+    query_not_unread : (p q : Program) (ops : Operators) (t : Term) → HasProgram held run.file p ops → ((names : List Word) (query : Term) → IsQuery ops p.names run.query names query → ⊥) → HasQuery held run q t → ⊥
     query_not_unread p q ops t a never b =
-        never b.names t (moved b.before p b.ops ops (one_program b.before p b.ops ops b.has a) b.names t b.read)
+        never b.names t (moved b.before p b.ops ops (one_program held run.file b.before p b.ops ops b.has a) b.names t b.read)
 
-    called_same : (p q : Program) (t u : Term) → HasQuery held command p t → HasQuery held command q u → called_by p t ≡ called_by q u
+    called_same : (p q : Program) (t u : Term) → HasQuery held run p t → HasQuery held run q u → called_by p t ≡ called_by q u
     called_same p q t u a b =
         let same = one_prepared p q t u a b in ap (λ x. called_by x t) same.0 ∙ ap (called_by q) same.1
 
-    meets_same : (p q : Program) (t u : Term) (n : ℕ) → HasQuery held command p t → HasQuery held command q u → query_meets_entry p n t ≡ query_meets_entry q n u
+    meets_same : (p q : Program) (t u : Term) (n : ℕ) → HasQuery held run p t → HasQuery held run q u → query_meets_entry p n t ≡ query_meets_entry q n u
     meets_same p q t u n a b =
         let same = one_prepared p q t u a b in ap (λ x. query_meets_entry x n t) same.0 ∙ ap (query_meets_entry q n) same.1
 
     -- a query that calls a predicate meets an entry of that or not
-    not_uncalled : (p q : Program) (t u : Term) (n : ℕ) → HasQuery held command p t → HasQuery held command q u → called_by p t ≡ None → called_by q u ≡ Some n → ⊥
+    not_uncalled : (p q : Program) (t u : Term) (n : ℕ) → HasQuery held run p t → HasQuery held run q u → called_by p t ≡ None → called_by q u ≡ Some n → ⊥
     not_uncalled p q t u n a b none some = none-some n (sym none ∙ called_same p q t u a b ∙ some)
 
-    not_unmet : (p q : Program) (t u : Term) (n : ℕ) → HasQuery held command p t → HasQuery held command q u → called_by p t ≡ Some n → query_meets_entry p n t ≡ false → MeetsEntry q u → ⊥
+    not_unmet : (p q : Program) (t u : Term) (n : ℕ) → HasQuery held run p t → HasQuery held run q u → called_by p t ≡ Some n → query_meets_entry p n t ≡ false → MeetsEntry q u → ⊥
     not_unmet p q t u n a b calls unmet m =
         let one : m.pred ≡ n = same_some m.pred n (called_by q u) m.calls (sym (called_same p q t u a b) ∙ calls) in
         true≢false (sym m.meets ∙ ap (λ k. query_meets_entry q k u) one ∙ sym (meets_same p q t u n a b) ∙ unmet)
 
-    -- a command that runs is not refused
-    pub run_not_refused : (why : Reason) (p : Program) (t : Term) → CommandRefused held command why → HasQuery held command p t → MeetsEntry p t → ⊥
-    run_not_refused _ p t (OfFiles line refused) a m = program_not_refused a.before a.ops line a.has refused
+    -- a run that goes on is not refused
+    pub run_not_refused : (why : Reason) (p : Program) (t : Term) → RunRefused held run why → HasQuery held run p t → MeetsEntry p t → ⊥
+    run_not_refused _ p t (OfFiles line refused) a m = program_not_refused held run.file a.before a.ops line a.has refused
     run_not_refused _ p t (Unread q ops has never) a m = query_not_unread q p ops t has never a
     run_not_refused _ p t (NotExported q u has none) a m = not_uncalled q p u t m.pred has a none m.calls
     run_not_refused _ p t (NoEntry q u has n calls unmet) a m = not_unmet q p u t n has a calls unmet m
 
-    from_files : (l : Word) → FilesRefused held command l → (why : Reason) → CommandRefused held command why → reason.OfFiles l ≡ why
-    from_files l refused _ (OfFiles line refused') = ap reason.OfFiles (one_line l line refused refused')
-    from_files l refused _ (Unread q ops has never) = absurd (program_not_refused q ops l has refused)
-    from_files l refused _ (NotExported q u has none) = absurd (program_not_refused has.before has.ops l has.has refused)
-    from_files l refused _ (NoEntry q u has n calls unmet) = absurd (program_not_refused has.before has.ops l has.has refused)
+    from_files : (l : Word) → FilesRefused held run.file l → (why : Reason) → RunRefused held run why → reason.OfFiles l ≡ why
+    from_files l refused _ (OfFiles line refused') = ap reason.OfFiles (one_line held run.file l line refused refused')
+    from_files l refused _ (Unread q ops has never) = absurd (program_not_refused held run.file q ops l has refused)
+    from_files l refused _ (NotExported q u has none) = absurd (program_not_refused held run.file has.before has.ops l has.has refused)
+    from_files l refused _ (NoEntry q u has n calls unmet) = absurd (program_not_refused held run.file has.before has.ops l has.has refused)
 
-    from_unread : (p : Program) (ops : Operators) → HasProgram held command p ops → ((names : List Word) (query : Term) → IsQuery ops p.names command.query names query → ⊥)
-        → (why : Reason) → CommandRefused held command why → reason.QueryUnread ≡ why
-    from_unread p ops has never _ (OfFiles line refused) = absurd (program_not_refused p ops line has refused)
+    from_unread : (p : Program) (ops : Operators) → HasProgram held run.file p ops → ((names : List Word) (query : Term) → IsQuery ops p.names run.query names query → ⊥)
+        → (why : Reason) → RunRefused held run why → reason.QueryUnread ≡ why
+    from_unread p ops has never _ (OfFiles line refused) = absurd (program_not_refused held run.file p ops line has refused)
     from_unread p ops has never _ (Unread q ops' has' never') = refl
     from_unread p ops has never _ (NotExported q u has' none) = absurd (query_not_unread p q ops u has never has')
     from_unread p ops has never _ (NoEntry q u has' n calls unmet) = absurd (query_not_unread p q ops u has never has')
 
-    from_not_exported : (p : Program) (t : Term) → HasQuery held command p t → called_by p t ≡ None → (why : Reason) → CommandRefused held command why → reason.QueryNotExported ≡ why
-    from_not_exported p t a none _ (OfFiles line refused) = absurd (program_not_refused a.before a.ops line a.has refused)
+    from_not_exported : (p : Program) (t : Term) → HasQuery held run p t → called_by p t ≡ None → (why : Reason) → RunRefused held run why → reason.QueryNotExported ≡ why
+    from_not_exported p t a none _ (OfFiles line refused) = absurd (program_not_refused held run.file a.before a.ops line a.has refused)
     from_not_exported p t a none _ (Unread q ops has never) = absurd (query_not_unread q p ops t has never a)
     from_not_exported p t a none _ (NotExported q u has none') = refl
     from_not_exported p t a none _ (NoEntry q u has n calls unmet) = absurd (not_uncalled p q t u n a has none calls)
 
-    from_no_entry : (p : Program) (t : Term) (n : ℕ) → HasQuery held command p t → called_by p t ≡ Some n → (why : Reason) → CommandRefused held command why → reason.QueryNoEntry ≡ why
-    from_no_entry p t n a calls _ (OfFiles line refused) = absurd (program_not_refused a.before a.ops line a.has refused)
+    from_no_entry : (p : Program) (t : Term) (n : ℕ) → HasQuery held run p t → called_by p t ≡ Some n → (why : Reason) → RunRefused held run why → reason.QueryNoEntry ≡ why
+    from_no_entry p t n a calls _ (OfFiles line refused) = absurd (program_not_refused held run.file a.before a.ops line a.has refused)
     from_no_entry p t n a calls _ (Unread q ops has never) = absurd (query_not_unread q p ops t has never a)
     from_no_entry p t n a calls _ (NotExported q u has none) = absurd (not_uncalled q p u t n has a none calls)
     from_no_entry p t n a calls _ (NoEntry q u has k calls' unmet) = refl
 
-    -- as a command it is accepted
-    not_no_command : (why : Reason) → CommandRefused held command why → why ≡ reason.NoCommand → ⊥
-    not_no_command _ (OfFiles line refused) e = let no : ⊥ = cc in no
-    not_no_command _ (Unread q ops has never) e = let no : ⊥ = cc in no
-    not_no_command _ (NotExported q u has none) e = let no : ⊥ = cc in no
-    not_no_command _ (NoEntry q u has n calls unmet) e = let no : ⊥ = cc in no
+    -- it is accepted
+    run_not_no_command : (why : Reason) → RunRefused held run why → why ≡ reason.NoCommand → ⊥
+    run_not_no_command _ (OfFiles line refused) e = let no : ⊥ = cc in no
+    run_not_no_command _ (Unread q ops has never) e = let no : ⊥ = cc in no
+    run_not_no_command _ (NotExported q u has none) e = let no : ⊥ = cc in no
+    run_not_no_command _ (NoEntry q u has n calls unmet) e = let no : ⊥ = cc in no
 
-    -- a command is refused in one way
-    one_command_refusal : (why other : Reason) → CommandRefused held command why → CommandRefused held command other → why ≡ other
-    one_command_refusal _ other (OfFiles line refused) b = from_files line refused other b
-    one_command_refusal _ other (Unread p ops has never) b = from_unread p ops has never other b
-    one_command_refusal _ other (NotExported p t has none) b = from_not_exported p t has none other b
-    one_command_refusal _ other (NoEntry p t has n calls unmet) b = from_no_entry p t n has calls other b
+    -- a run is refused in one way
+    one_run_refusal : (why other : Reason) → RunRefused held run why → RunRefused held run other → why ≡ other
+    one_run_refusal _ other (OfFiles line refused) b = from_files line refused other b
+    one_run_refusal _ other (Unread p ops has never) b = from_unread p ops has never other b
+    one_run_refusal _ other (NotExported p t has none) b = from_not_exported p t has none other b
+    one_run_refusal _ other (NoEntry p t has n calls unmet) b = from_no_entry p t n has calls other b
+
+  -- checks
+
+  -- the line of a check that is refused
+  check_line : (held : Held) (file : Word) (why : Reason) → CheckRefused held file why → (line : Word) × (why ≡ reason.OfFiles line) × FilesRefused held file line
+  check_line held file (reason.OfFiles line) a = (line, refl, a)
+  check_line held file reason.NoCommand a = absurd a
+  check_line held file reason.QueryUnread a = absurd a
+  check_line held file reason.QueryNotExported a = absurd a
+  check_line held file reason.QueryNoEntry a = absurd a
+
+  check_not_no_command : (held : Held) (file : Word) (why : Reason) → CheckRefused held file why → why ≡ reason.NoCommand → ⊥
+  check_not_no_command held file why a e =
+      let told = check_line held file why a in
+      let is : why ≡ reason.OfFiles told.0 = told.1 in
+      let no : ⊥ = cc in
+      no
+
+  one_check_refusal : (held : Held) (file : Word) (why other : Reason) → CheckRefused held file why → CheckRefused held file other → why ≡ other
+  one_check_refusal held file why other a b =
+      let x = check_line held file why a in
+      let y = check_line held file other b in
+      x.1 ∙ ap reason.OfFiles (one_line held file x.0 y.0 x.2 y.2) ∙ sym y.1
+
+  check_not_refused : (held : Held) (file : Word) (why : Reason) (p : Program) (ops : Operators) → CheckRefused held file why → HasProgram held file p ops → ⊥
+  check_not_refused held file why p ops a has =
+      let x = check_line held file why a in program_not_refused held file p ops x.0 has x.2
+
+  -- commands
+
+  not_no_command : (held : Held) (command : Command) (why : Reason) → CommandRefused held command why → why ≡ reason.NoCommand → ⊥
+  not_no_command held (RunQuery run) why a e = run_not_no_command held run why a e
+  not_no_command held (CheckFile file) why a e = check_not_no_command held file why a e
+  not_no_command held (GenerateModule made) why a e = run_not_no_command (generated_files made) (generated_run made) why a e
+
+  -- a command is refused in one way
+  one_command_refusal : (held : Held) (command : Command) (why other : Reason) → CommandRefused held command why → CommandRefused held command other → why ≡ other
+  one_command_refusal held (RunQuery run) why other a b = one_run_refusal held run why other a b
+  one_command_refusal held (CheckFile file) why other a b = one_check_refusal held file why other a b
+  one_command_refusal held (GenerateModule made) why other a b = one_run_refusal (generated_files made) (generated_run made) why other a b
+
+  -- a command that answers is not refused
+  command_not_refused : (held : Held) (command : Command) (why : Reason) (text : Word) (status : ℕ) → CommandRefused held command why → CommandAnswers held command text status → ⊥
+  command_not_refused held (RunQuery run) why text status a b = run_not_refused held run why b.program b.query a b.has b.meets
+  command_not_refused held (CheckFile file) why text status a b = check_not_refused held file why b.program b.ops a b.has
+  command_not_refused held (GenerateModule made) why text status a b = run_not_refused (generated_files made) (generated_run made) why b.program b.query a b.has b.meets
 
   module _ (held : Held) (words : List Word) where
     from_no_command : AcceptedWords words ≡ None → (why : Reason) → Refuses held words why → reason.NoCommand ≡ why
     from_no_command none _ (NoCommand none') = refl
     from_no_command none _ (OfCommand command is why refused) = absurd (none-some command (sym none ∙ is))
 
-    from_command : (command : RunWords) → AcceptedWords words ≡ Some command → (why : Reason) → CommandRefused held command why → (other : Reason) → Refuses held words other → why ≡ other
+    from_command : (command : Command) → AcceptedWords words ≡ Some command → (why : Reason) → CommandRefused held command why → (other : Reason) → Refuses held words other → why ≡ other
     from_command command is why refused _ (NoCommand none) = absurd (none-some command (sym none ∙ is))
     from_command command is why refused _ (OfCommand command' is' other refused') =
         one_command_refusal held command why other refused (subst (λ c. CommandRefused held c other) (same_some command' command (AcceptedWords words) is' is) refused')
@@ -184,11 +232,15 @@ module _ (relied : Relied) where
     one_refusal _ other (OfCommand command is why refused) b = from_command command is why refused other b
 
     -- accepted words that are refused are so as their command
-    command_refused : (command : RunWords) → AcceptedWords words ≡ Some command → (why : Reason) → Refuses held words why → CommandRefused held command why
+    command_refused : (command : Command) → AcceptedWords words ≡ Some command → (why : Reason) → Refuses held words why → CommandRefused held command why
     command_refused command is _ (NoCommand none) = absurd (none-some command (sym none ∙ is))
     command_refused command is _ (OfCommand command' is' why refused) = subst (λ c. CommandRefused held c why) (same_some command' command (AcceptedWords words) is' is) refused
 
-    -- words that run are not refused
-    pub run_words_not_refused : (command : RunWords) → AcceptedWords words ≡ Some command → (why : Reason) (p : Program) (t : Term)
-        → Refuses held words why → HasQuery held command p t → MeetsEntry p t → ⊥
-    run_words_not_refused command is why p t refused a m = run_not_refused held command why p t (command_refused command is why refused) a m
+    -- words of which a command answers are not refused
+    pub words_not_refused : (command : Command) → AcceptedWords words ≡ Some command → (why : Reason) (text : Word) (status : ℕ)
+        → Refuses held words why → CommandAnswers held command text status → ⊥
+    words_not_refused command is why text status refused a = command_not_refused held command why text status (command_refused command is why refused) a
+
+    -- nor are words of a run that goes on
+    pub run_words_not_refused : (run : RunWords) → AcceptedWords words ≡ Some (RunQuery run) → (why : Reason) (p : Program) (t : Term) → Refuses held words why → HasQuery held run p t → MeetsEntry p t → ⊥
+    run_words_not_refused run is why p t refused a m = run_not_refused held run why p t (command_refused (RunQuery run) is why refused) a m

@@ -1,5 +1,8 @@
 -- The statuses that the definitions have.
-use Rattle.std.proofs.Common.{◌≡◌, ◌⊎◌, inl, inr, refl, ℕ, zero, suc, ◌+◌, ◌<◌, ◌≤◌, List, Option, Some, None, sym, ◌∙◌, arith}
+use Rattle.std.proofs.Common.{◌≡◌, ◌⊎◌, inl, inr, refl, ℕ, zero, suc, ◌+◌, ◌<◌, ◌≤◌, List, Bool, true, false, Option, Some, None, if◌then◌else◌, sym, ◌∙◌, arith}
+use Rattle.std.specs.List.{list_any}
+use Rattle.byte_io.specs.Outside.{Held}
+use Rattle.prog_data.specs.declared.tables.Status.TheVariants.{False}
 use Rattle.prog_data.specs.declared.events.Event.{Event}
 use Rattle.prog_data.specs.declared.events.Ending.{Ending}
 use Rattle.prog_data.specs.declared.events.Ending.TheVariants.{NoMore, Bound, Violated, Cyclic, Arithmetic}
@@ -7,6 +10,10 @@ use Rattle.ciao_top.specs.declared.stops.Reason.{Reason}
 use Rattle.ciao_top.specs.declared.stops.Reason.TheVariants as reason
 use Rattle.ciao_top.specs.Lines.{reason_status}
 use Rattle.run_report.specs.RunText.{ending_status}
+use Rattle.run_report.specs.Report.{same_status, claim_status}
+use Rattle.ciao_modules.specs.FileNames.{Word}
+use Rattle.ciao_top.specs.WordsAccepted.{Command, RunQuery, CheckFile, GenerateModule}
+use Rattle.ciao_top.specs.Answers.{CommandAnswers}
 use Rattle.ciao_top.specs.Limits.{up_to_limit, told_status, limited_status}
 
 -- two numbers in order are not equal
@@ -26,7 +33,7 @@ pub record IsOfRun (status : ℕ) : Type 0 where
 of_number : (n status : ℕ) → status ≡ n → n < 7 → (n ≡ 2 → ⊥) → IsOfRun status
 of_number n status is small other = record { small = omega arith; not_two = λ two. other (sym is ∙ two) }
 
-of_ending : (e : Ending) (status : ℕ) → status ≡ ending_status e → IsOfRun status
+pub of_ending : (e : Ending) (status : ℕ) → status ≡ ending_status e → IsOfRun status
 of_ending NoMore status is = of_number 0 status is (omega arith) (apart 0 2 (omega arith))
 of_ending Bound status is = of_number 5 status is (omega arith) (λ x. apart 2 5 (omega arith) (sym x))
 of_ending (Violated c) status is = of_number 1 status is (omega arith) (apart 1 2 (omega arith))
@@ -40,6 +47,17 @@ of_told (Some told) e status is = of_number 0 status is (omega arith) (apart 0 2
 
 pub of_limited : (limit : Option ℕ) (events : List Event) (e : Ending) (status : ℕ) → status ≡ limited_status limit events e → IsOfRun status
 of_limited limit events e status is = of_told (up_to_limit limit events) e status is
+
+-- and of a report
+pub of_report : (is_false : Bool) (status : ℕ) → status ≡ (if is_false then 1 else 0) → IsOfRun status
+of_report true status is = of_number 1 status is (omega arith) (apart 1 2 (omega arith))
+of_report false status is = of_number 0 status is (omega arith) (apart 0 2 (omega arith))
+
+-- and of a command that is not refused
+pub of_command : (held : Held) (command : Command) (text : Word) (status : ℕ) → CommandAnswers held command text status → IsOfRun status
+of_command held (RunQuery run) text status a = of_limited run.answers a.answers.events a.answers.ending status a.answers.status_is
+of_command held (CheckFile file) text status a = of_report (list_any (λ claim. same_status False (claim_status a.answers.statuses claim)) a.program.claims) status a.answers.status_is
+of_command held (GenerateModule made) text status a = of_ending a.answers.ending status a.answers.status_is
 
 -- the status of words that are refused
 pub reason_small : (why : Reason) → reason_status why < 7

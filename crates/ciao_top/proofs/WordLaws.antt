@@ -1,11 +1,11 @@
 -- What is found in words decides whether they are accepted.
-use Rattle.std.proofs.Common.{◌≡◌, ℕ, Bool, true, false, ◌&&◌, List, [], ◌∷◌, ◌++◌, Option, Some, None, option_map, if◌then◌else◌, bytes_eq, ap, sym, ◌∙◌, refl}
+use Rattle.std.proofs.Common.{◌≡◌, ℕ, ◌-◌, ◌^◌, Bool, true, false, ◌&&◌, List, [], ◌∷◌, ◌++◌, Option, Some, None, option_map, is_some, if◌then◌else◌, bytes_eq, ap, sym, ◌∙◌, refl}
 use Rattle.std.specs.Option.{option_and_then}
 use Rattle.ciao_modules.specs.FileNames.{Word, is_main_file}
-use Rattle.ciao_top.specs.WordsTable.{OptionRow, steps_row, answers_row, run_row}
+use Rattle.ciao_top.specs.WordsTable.{Run, Check, Generate, OptionRow, steps_row, answers_row, most_generated, run_row, check_row, generate_row}
 use Rattle.ciao_top.specs.WordsCut.{GivenOption, WordParts, WordUse, Separator, Name, Given, Positional, Dashed, use_of, no_parts, with_positional, with_option, cut_by, cut_words}
-use Rattle.ciao_top.specs.WordsAccepted.{values_of, number_for, are_of_kinds, accepted_parts, RunWords, run_of, run_by}
-use Rattle.ciao_top.specs.WordsFound.{FewValues, more_words, FoundWords, nothing_found, few_words, few_values, found_of, all_and, one_more, value_and, found_with, find_by, find_words, number_found, run_numbered, run_found}
+use Rattle.ciao_top.specs.WordsAccepted.{values_of, number_between, number_for, are_of_kinds, AcceptedParts, accepted_parts, generate_numbered, Command, RunQuery, CheckFile, GenerateModule, command_of, command_by}
+use Rattle.ciao_top.specs.WordsFound.{FewValues, more_words, FoundWords, nothing_found, few_words, few_values, found_of, all_and, one_more, value_and, found_with, find_by, find_words, number_found, run_numbered, run_found, check_found, generate_steps, generate_found}
 
 -- words behind others
 
@@ -80,7 +80,7 @@ module _ (rows : List OptionRow) (name : Word) where
       ap (λ f. find_words rows name None f words) (with_given parts option) ∙ is_found words None (with_option parts option)
   is_found (word ∷ words) None parts = found_by (use_of rows word) word words parts (is_found words)
 
--- the run of what is found
+-- commands
 
 -- the number of an option by what is found of its values
 number_same : (row : OptionRow) (values : List Word) → number_for row values ≡ number_found row (few_values values)
@@ -88,16 +88,41 @@ number_same row [] = refl
 number_same row (value ∷ []) = refl
 number_same row (value ∷ another ∷ values) = refl
 
+false_behind : (b : Bool) → (b && false) ≡ false
+false_behind true = refl
+false_behind false = refl
+
+-- the command of parts that a test accepts
+abbrev accepted_where : (AcceptedParts → Option Command) → Bool → List Word → Option (List (Option ℕ)) → Option Command
+accepted_where makes are positional numbers = option_and_then makes (if are then option_map (λ ns. record { words = positional; numbers = ns }) numbers else None)
+
+-- there is none where it does not
+without_words : (makes : AcceptedParts → Option Command) (are : Bool) (positional : List Word) (numbers : Option (List (Option ℕ))) → are ≡ false → accepted_where makes are positional numbers ≡ None
+without_words makes are positional numbers is = ap (λ b. accepted_where makes b positional numbers) is
+
+-- nor without numbers
+without_numbers : (makes : AcceptedParts → Option Command) (are : Bool) (positional : List Word) → accepted_where makes are positional None ≡ None
+without_numbers makes true positional = refl
+without_numbers makes false positional = refl
+
+-- nor where it makes none of them
+makes_none : (makes : AcceptedParts → Option Command) (are : Bool) (positional : List Word) (numbers : List (Option ℕ)) → makes (record { words = positional; numbers = numbers }) ≡ None
+    → accepted_where makes are positional (Some numbers) ≡ None
+makes_none makes true positional numbers none = none
+makes_none makes false positional numbers none = refl
+
+-- a run
+
 -- the numbers of the options of `run`
 abbrev numbers_of : Option (Option ℕ) → Option (Option ℕ) → Option (List (Option ℕ))
 numbers_of steps answers = option_and_then (λ n. option_map (λ ns. n ∷ ns) (option_and_then (λ m. option_map (λ ms. m ∷ ms) (Some [])) answers)) steps
 
 -- the run of positional words and of the numbers
-abbrev run_by_parts : Bool → List Word → Option (Option ℕ) → Option (Option ℕ) → Option RunWords
-run_by_parts are positional steps answers = option_and_then run_of (if are then option_map (λ numbers. record { words = positional; numbers = numbers }) (numbers_of steps answers) else None)
+abbrev run_by_parts : Bool → List Word → Option (Option ℕ) → Option (Option ℕ) → Option Command
+run_by_parts are positional steps answers = accepted_where (command_of Run) are positional (numbers_of steps answers)
 
 -- two positional words
-with_two : (is_main : Bool) (file query : Word) (steps answers : Option (Option ℕ)) → run_by_parts (is_main && true) (file ∷ query ∷ []) steps answers ≡ (if is_main then run_numbered file query steps answers else None)
+with_two : (is_main : Bool) (file query : Word) (steps answers : Option (Option ℕ)) → run_by_parts (is_main && true) (file ∷ query ∷ []) steps answers ≡ option_map RunQuery (if is_main then run_numbered file query steps answers else None)
 with_two true file query None answers = refl
 with_two true file query (Some None) None = refl
 with_two true file query (Some None) (Some limit) = refl
@@ -105,27 +130,19 @@ with_two true file query (Some (Some n)) None = refl
 with_two true file query (Some (Some n)) (Some limit) = refl
 with_two false file query steps answers = refl
 
-false_behind : (b : Bool) → (b && false) ≡ false
-false_behind true = refl
-false_behind false = refl
-
--- another number of positional words
-without_words : (are : Bool) (positional : List Word) (steps answers : Option (Option ℕ)) → are ≡ false → run_by_parts are positional steps answers ≡ None
-without_words are positional steps answers is = ap (λ b. run_by_parts b positional steps answers) is
-
 run_of_parts : (positional : List Word) (steps answers : FewValues)
-    → run_by_parts (are_of_kinds run_row.kinds positional) positional (number_found steps_row steps) (number_found answers_row answers) ≡ run_found (few_words positional) steps answers
+    → run_by_parts (are_of_kinds run_row.kinds positional) positional (number_found steps_row steps) (number_found answers_row answers) ≡ option_map RunQuery (run_found (few_words positional) steps answers)
 run_of_parts [] steps answers = refl
-run_of_parts (file ∷ []) steps answers = without_words (is_main_file file && false) (file ∷ []) (number_found steps_row steps) (number_found answers_row answers) (false_behind (is_main_file file))
+run_of_parts (file ∷ []) steps answers = without_words (command_of Run) (is_main_file file && false) (file ∷ []) (numbers_of (number_found steps_row steps) (number_found answers_row answers)) (false_behind (is_main_file file))
 run_of_parts (file ∷ query ∷ []) steps answers = with_two (is_main_file file) file query (number_found steps_row steps) (number_found answers_row answers)
 run_of_parts (file ∷ query ∷ another ∷ words) steps answers =
-    without_words (is_main_file file && (true && false)) (file ∷ query ∷ another ∷ words) (number_found steps_row steps) (number_found answers_row answers) (false_behind (is_main_file file))
+    without_words (command_of Run) (is_main_file file && (true && false)) (file ∷ query ∷ another ∷ words) (numbers_of (number_found steps_row steps) (number_found answers_row answers)) (false_behind (is_main_file file))
 
 -- the run of what is found for `--steps` and for `--answers`
-abbrev run_in : Option FoundWords → Option FoundWords → Option RunWords
-run_in found limited = option_and_then (λ f. option_and_then (λ g. run_found f.positional f.value g.value) limited) found
+abbrev run_in : Option FoundWords → Option FoundWords → Option Command
+run_in found limited = option_map RunQuery (option_and_then (λ f. option_and_then (λ g. run_found f.positional f.value g.value) limited) found)
 
-run_of_cut : (parts : Option WordParts) → option_and_then run_of (option_and_then (accepted_parts run_row) parts) ≡ run_in (option_map (found_of steps_row.name) parts) (option_map (found_of answers_row.name) parts)
+run_of_cut : (parts : Option WordParts) → option_and_then (command_of Run) (option_and_then (accepted_parts run_row) parts) ≡ run_in (option_map (found_of steps_row.name) parts) (option_map (found_of answers_row.name) parts)
 run_of_cut None = refl
 run_of_cut (Some parts) =
     ap (λ n. run_by_parts (are_of_kinds run_row.kinds parts.positional) parts.positional n (number_for answers_row (values_of answers_row.name parts.given))) (number_same steps_row (values_of steps_row.name parts.given))
@@ -134,9 +151,102 @@ run_of_cut (Some parts) =
 
 -- the run that words behind `run` are
 pub run_is : (words : List Word)
-    → run_by words run_row
-    ≡ option_and_then (λ f. option_and_then (λ g. run_found f.positional f.value g.value) (find_words run_row.options answers_row.name None nothing_found words)) (find_words run_row.options steps_row.name None nothing_found words)
+    → command_by words run_row
+    ≡ option_map RunQuery (option_and_then (λ f. option_and_then (λ g. run_found f.positional f.value g.value) (find_words run_row.options answers_row.name None nothing_found words)) (find_words run_row.options steps_row.name None nothing_found words))
 run_is words =
     run_of_cut (cut_words run_row.options None no_parts words)
     ∙ ap (λ f. run_in f (option_map (found_of answers_row.name) (cut_words run_row.options None no_parts words))) (sym (is_found run_row.options steps_row.name words None no_parts))
     ∙ ap (run_in (find_words run_row.options steps_row.name None nothing_found words)) (sym (is_found run_row.options answers_row.name words None no_parts))
+
+-- a check
+
+-- one positional word
+with_one : (is_main : Bool) (file : Word) → accepted_where (command_of Check) (is_main && true) (file ∷ []) (Some []) ≡ option_map CheckFile (if is_main then Some file else None)
+with_one true file = refl
+with_one false file = refl
+
+check_of_parts : (positional : List Word) → accepted_where (command_of Check) (are_of_kinds check_row.kinds positional) positional (Some []) ≡ option_map CheckFile (check_found (few_words positional))
+check_of_parts [] = refl
+check_of_parts (file ∷ []) = with_one (is_main_file file) file
+check_of_parts (file ∷ another ∷ []) = without_words (command_of Check) (is_main_file file && false) (file ∷ another ∷ []) (Some []) (false_behind (is_main_file file))
+check_of_parts (file ∷ another ∷ third ∷ words) = without_words (command_of Check) (is_main_file file && false) (file ∷ another ∷ third ∷ words) (Some []) (false_behind (is_main_file file))
+
+-- the check of what is found
+abbrev check_in : Option FoundWords → Option Command
+check_in found = option_map CheckFile (option_and_then (λ f. check_found f.positional) found)
+
+check_of_cut : (parts : Option WordParts) → option_and_then (command_of Check) (option_and_then (accepted_parts check_row) parts) ≡ check_in (option_map (found_of []) parts)
+check_of_cut None = refl
+check_of_cut (Some parts) = check_of_parts parts.positional
+
+-- the check that words behind `check` are
+pub check_is : (words : List Word) → command_by words check_row ≡ option_map CheckFile (option_and_then (λ f. check_found f.positional) (find_words [] [] None nothing_found words))
+check_is words = check_of_cut (cut_words check_row.options None no_parts words) ∙ ap check_in (sym (is_found [] [] words None no_parts))
+
+-- a generated module
+
+-- the numbers of the options of `generate`
+abbrev numbers_with : Option (Option ℕ) → Option (List (Option ℕ))
+numbers_with steps = option_and_then (λ n. option_map (λ ns. n ∷ ns) (Some [])) steps
+
+-- two numbers, with a bound
+with_numbers : (n c : Option ℕ) (steps : ℕ) → (if is_some n && (is_some c && true) then option_map GenerateModule (generate_numbered steps n c) else None) ≡ option_map GenerateModule (generate_steps n c (Some (Some steps)))
+with_numbers None c steps = refl
+with_numbers (Some n) None steps = refl
+with_numbers (Some n) (Some c) steps = refl
+
+-- without one
+no_steps : (n c : Option ℕ) → option_map GenerateModule (generate_steps n c None) ≡ None
+no_steps None c = refl
+no_steps (Some n) None = refl
+no_steps (Some n) (Some c) = refl
+
+no_bound : (n c : Option ℕ) → option_map GenerateModule (generate_steps n c (Some None)) ≡ None
+no_bound None c = refl
+no_bound (Some n) None = refl
+no_bound (Some n) (Some c) = refl
+
+made_where : (makes : AcceptedParts → Option Command) (are : Bool) (positional : List Word) (numbers : List (Option ℕ))
+    → accepted_where makes are positional (Some numbers) ≡ (if are then makes (record { words = positional; numbers = numbers }) else None)
+made_where makes true positional numbers = refl
+made_where makes false positional numbers = refl
+
+-- two positional words
+with_both : (number count : Word) (steps : Option (Option ℕ))
+    → accepted_where (command_of Generate) (are_of_kinds generate_row.kinds (number ∷ count ∷ [])) (number ∷ count ∷ []) (numbers_with steps) ≡ option_map GenerateModule (generate_steps (number_between 0 (2 ^ 63 - 1) number) (number_between 1 most_generated count) steps)
+with_both number count None = without_numbers (command_of Generate) (are_of_kinds generate_row.kinds (number ∷ count ∷ [])) (number ∷ count ∷ []) ∙ sym (no_steps (number_between 0 (2 ^ 63 - 1) number) (number_between 1 most_generated count))
+with_both number count (Some None) =
+    makes_none (command_of Generate) (are_of_kinds generate_row.kinds (number ∷ count ∷ [])) (number ∷ count ∷ []) (None ∷ []) refl
+    ∙ sym (no_bound (number_between 0 (2 ^ 63 - 1) number) (number_between 1 most_generated count))
+with_both number count (Some (Some steps)) =
+    made_where (command_of Generate) (are_of_kinds generate_row.kinds (number ∷ count ∷ [])) (number ∷ count ∷ []) (Some steps ∷ [])
+    ∙ with_numbers (number_between 0 (2 ^ 63 - 1) number) (number_between 1 most_generated count) steps
+
+false_behind_two : (a b : Bool) → (a && (b && false)) ≡ false
+false_behind_two true b = false_behind b
+false_behind_two false b = refl
+
+generate_of_parts : (positional : List Word) (steps : FewValues)
+    → accepted_where (command_of Generate) (are_of_kinds generate_row.kinds positional) positional (numbers_with (number_found steps_row steps)) ≡ option_map GenerateModule (generate_found (few_words positional) steps)
+generate_of_parts [] steps = refl
+generate_of_parts (number ∷ []) steps =
+    without_words (command_of Generate) (is_some (number_between 0 (2 ^ 63 - 1) number) && false) (number ∷ []) (numbers_with (number_found steps_row steps)) (false_behind (is_some (number_between 0 (2 ^ 63 - 1) number)))
+generate_of_parts (number ∷ count ∷ []) steps = with_both number count (number_found steps_row steps)
+generate_of_parts (number ∷ count ∷ another ∷ words) steps =
+    without_words (command_of Generate) (is_some (number_between 0 (2 ^ 63 - 1) number) && (is_some (number_between 1 most_generated count) && false)) (number ∷ count ∷ another ∷ words) (numbers_with (number_found steps_row steps))
+    (false_behind_two (is_some (number_between 0 (2 ^ 63 - 1) number)) (is_some (number_between 1 most_generated count)))
+
+-- the generated module of what is found
+abbrev generate_in : Option FoundWords → Option Command
+generate_in found = option_map GenerateModule (option_and_then (λ f. generate_found f.positional f.value) found)
+
+generate_of_cut : (parts : Option WordParts) → option_and_then (command_of Generate) (option_and_then (accepted_parts generate_row) parts) ≡ generate_in (option_map (found_of steps_row.name) parts)
+generate_of_cut None = refl
+generate_of_cut (Some parts) =
+    ap (λ n. accepted_where (command_of Generate) (are_of_kinds generate_row.kinds parts.positional) parts.positional (numbers_with n)) (number_same steps_row (values_of steps_row.name parts.given))
+    ∙ generate_of_parts parts.positional (few_values (values_of steps_row.name parts.given))
+
+-- the generated module that words behind `generate` are
+pub generate_is : (words : List Word)
+    → command_by words generate_row ≡ option_map GenerateModule (option_and_then (λ f. generate_found f.positional f.value) (find_words generate_row.options steps_row.name None nothing_found words))
+generate_is words = generate_of_cut (cut_words generate_row.options None no_parts words) ∙ ap generate_in (sym (is_found generate_row.options steps_row.name words None no_parts))

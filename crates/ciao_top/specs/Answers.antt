@@ -10,7 +10,7 @@ use Rattle.ciao_modules.specs.FileNames.{Word, folder_of}
 use Rattle.ciao_modules.specs.LoadReads.{Agree, AreLoadReads, IsLastFailed}
 use Rattle.ciao_modules.specs.declared.units.Unit.{Unit}
 use Rattle.ciao_modules.specs.declared.units.LoadFault.{LoadFault}
-use Rattle.ciao_top.specs.WordsAccepted.{RunWords, GenerateWords, RunQuery, CheckFile, GenerateModule, AcceptedWords, file_read_for}
+use Rattle.ciao_top.specs.WordsAccepted.{RunWords, GenerateWords, Command, RunQuery, CheckFile, GenerateModule, AcceptedWords, file_read_for}
 use Rattle.ciao_top.specs.declared.stops.Reason.{Reason}
 use Rattle.ciao_top.specs.Queries.{MeetsEntry}
 use Rattle.ciao_top.specs.FileSets.{HasProgram, HasQuery, IsReached, generated_files, generated_run}
@@ -20,16 +20,39 @@ use Rattle.ciao_top.specs.Reports.{ReportAnswers}
 use Rattle.ciao_top.specs.Summaries.{SummaryAnswers}
 use Rattle.ciao_top.specs.Lines.{reason_text, reason_status, read_fault}
 
+-- the run of a query of the files writes this text and ends with this status
+pub record RunsTo (held : Held) (run : RunWords) (text : Word) (status : ℕ) : Type 0 where
+  pub program : Program
+  pub query : Term
+  pub has : HasQuery held run program query
+  pub meets : MeetsEntry program query
+  pub answers : RunAnswers program query run.steps run.answers text status
+
+-- the check of a file does so
+pub record ReportsTo (held : Held) (file text : Word) (status : ℕ) : Type 0 where
+  pub program : Program
+  pub ops : Operators
+  pub has : HasProgram held file program ops
+  pub answers : ReportAnswers program text status
+
+-- a generated module does so, of which no file is read
+pub record SummarisesTo (made : GenerateWords) (text : Word) (status : ℕ) : Type 0 where
+  pub program : Program
+  pub query : Term
+  pub has : HasQuery (generated_files made) (generated_run made) program query
+  pub meets : MeetsEntry program query
+  pub answers : SummaryAnswers made program query text status
+
+-- a command does so, which is not refused
+abbrev pub CommandAnswers : Held → Command → Word → ℕ → Type 0
+CommandAnswers held (RunQuery run) text status = RunsTo held run text status
+CommandAnswers held (CheckFile file) text status = ReportsTo held file text status
+CommandAnswers held (GenerateModule made) text status = SummarisesTo made text status
+
 -- Defined: the text and the status for these files and words. It knows of no call and no fault of a device.
 pub data Defined (held : Held) (words : List Word) (text : Word) (status : ℕ) : Type 0 where
   Refused : (why : Reason) → Refuses held words why → text ≡ reason_text why → status ≡ reason_status why → Defined held words text status
-  Runs : (run : RunWords) → AcceptedWords words ≡ Some (RunQuery run) → (program : Program) (query : Term) → HasQuery held run program query → MeetsEntry program query
-      → RunAnswers program query run.steps run.answers text status → Defined held words text status
-  Reports : (file : Word) → AcceptedWords words ≡ Some (CheckFile file) → (program : Program) (ops : Operators) → HasProgram held file program ops
-      → ReportAnswers program text status → Defined held words text status
-  Summarises : (made : GenerateWords) → AcceptedWords words ≡ Some (GenerateModule made) → (program : Program) (query : Term)
-      → HasQuery (generated_files made) (generated_run made) program query → MeetsEntry program query
-      → SummaryAnswers made program query text status → Defined held words text status
+  Answers : (command : Command) → AcceptedWords words ≡ Some command → CommandAnswers held command text status → Defined held words text status
 
 -- what the files and the sink tell of a call
 
@@ -46,16 +69,16 @@ output_of written taken = record { written = written; taken = taken }
 abbrev pub with_piece : Output → Word → Output
 with_piece old piece = record { written = grown old.written piece; taken = old.taken ++ piece }
 
--- the reads of a call for these words: none, or those of the load of the main file, in its order and up to where it ends, for all files that agree with them
-pub data ReadsOnly (words : List Word) (reads : List FileRead) : Type 0 where
-  Nothing : file_read_for words ≡ None → reads ≡ [] → ReadsOnly words reads
-  OfLoad : (main : Word) → file_read_for words ≡ Some main
-      → ((files : Held) → Agree reads files → (result : Result (List Unit) LoadFault) × AreLoadReads files main fixed_names result reads) → ReadsOnly words reads
+-- the reads of a call: none where no file is read, else those of the load of the main file, in its order and up to where it ends, for all files that agree with them
+pub data ReadsOnly (file : Option Word) (reads : List FileRead) : Type 0 where
+  Nothing : file ≡ None → reads ≡ [] → ReadsOnly file reads
+  OfLoad : (main : Word) → file ≡ Some main
+      → ((files : Held) → Agree reads files → (result : Result (List Unit) LoadFault) × AreLoadReads files main fixed_names result reads) → ReadsOnly file reads
 
 -- the file of this name could not be read: the last of the reads is of it and failed, and in all files that agree with the reads it is reached
-pub record IsUnread (words : List Word) (reads : List FileRead) (name : Word) : Type 0 where
+pub record IsUnread (file : Option Word) (reads : List FileRead) (name : Word) : Type 0 where
   pub main : Word
-  pub accepted : file_read_for words ≡ Some main
+  pub is : file ≡ Some main
   pub last : IsLastFailed (folder_of main ++ name) reads
   pub reached : (files : Held) → Agree reads files → IsReached files main name
 
@@ -67,7 +90,7 @@ IsPrefix front all = (count : ℕ) × (front ≡ take count all)
 abbrev pub CutShort : Held → List Word → List FileRead → Type 0 → Word → Type 0
 CutShort held words reads reading piece =
     ((text : Word) (status : ℕ) → Defined held words text status → IsPrefix piece text)
-    ⊎ (reading × ((name : Word) × IsUnread words reads name × IsPrefix piece (read_fault name)))
+    ⊎ (reading × ((name : Word) × IsUnread (file_read_for words) reads name × IsPrefix piece (read_fault name)))
 
 -- The contract of the tool. `held` is what the files hold, where they tell it, `reads` the reads that were made in the
 -- call; `reading` and `writing` say that the count of faults of the files, of the sink, rose in the call; `old` and
@@ -78,7 +101,7 @@ pub record Answered (held : Option Held) (words : List Word) (reads : List FileR
   pub refused : status ≡ 2 → AcceptedWords words ≡ None
   pub not_accepted : AcceptedWords words ≡ None → (status ≡ 2) ⊎ (8 ≤ status)
   -- the reads, of which no two are of one file
-  pub reads_only : ReadsOnly words reads
+  pub reads_only : ReadsOnly (file_read_for words) reads
   pub once : IsDistinct bytes_eq (map (λ read. read.name) reads)
   -- there are files that agree with them; those that are told do
   pub files : Held
@@ -90,7 +113,7 @@ pub record Answered (held : Option Held) (words : List Word) (reads : List FileR
   -- otherwise the text and the status are the defined ones, for all files that agree with the reads
   pub defined : status < 7 → (text : Word) × ((files : Held) → Agree reads files → Defined files words text status) × (new ≡ with_piece old text)
   -- the file that could not be read is named
-  pub unread : status ≡ 7 → (name : Word) × IsUnread words reads name × (new ≡ with_piece old (read_fault name))
+  pub unread : status ≡ 7 → (name : Word) × IsUnread (file_read_for words) reads name × (new ≡ with_piece old (read_fault name))
   -- after a fault of the sink, or want of memory, a prefix was written
   pub front : 8 ≤ status → (piece : Word) × ((files : Held) → Agree reads files → CutShort files words reads reading piece) × (new ≡ with_piece old piece)
 

@@ -43,7 +43,7 @@ use Rattle.ciao_top.specs.FileSets.{HasProgram, IsReached}
 use Rattle.ciao_top.specs.Limits.{LimitedText, limited_status}
 use Rattle.ciao_top.specs.Queries.{main_operators, IsQuery, query_meets_entry}
 use Rattle.ciao_top.specs.Refused.{CommandRefused}
-use Rattle.ciao_top.specs.Answers.{IsPrefix, Output, with_piece}
+use Rattle.ciao_top.specs.Answers.{IsUnread, IsPrefix, Output, with_piece}
 
 -- a run as the code has it
 abbrev pub run_words : RunCommand → RunWords
@@ -137,8 +137,7 @@ UnitStops names units text s = LinkStops names units s ⊎ ((before : Program) �
 -- why a command is not carried out: for all files that agree with the reads it is refused so, or a read failed
 abbrev pub Stops : Command → List FileRead → Type 0 → Stop → Type 0
 Stops command reads reading (stop.Refused why) = (files : Held) → Agree reads files → CommandRefused files command why
-Stops command reads reading (stop.Unreadable name) =
-    reading × ((main : Word) × (read_by command ≡ Some main) × IsLastFailed (folder_of main ++ name) reads × ((files : Held) → Agree reads files → IsReached files main name))
+Stops command reads reading (stop.Unreadable name) = reading × IsUnread (read_by command) reads name
 Stops command reads reading stop.NoMemory = ⊤
 
 -- a program with a query, in range and as the linker makes it

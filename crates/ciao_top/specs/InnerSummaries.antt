@@ -1,7 +1,6 @@
--- What the inner functions of reports and of summaries answer.
+-- What the inner functions of summaries answer.
 -- The headline does not rest on this file.
 use Rattle.std.specs.Prelude.{⊤, ◌≡◌, ℕ, suc, ◌+◌, List, [], Option, Some, None, if◌then◌else◌, bytes_eq}
-use Rattle.byte_io.specs.Outside.{FileRead}
 use Rattle.byte_io.specs.Memory.{files_held, files_faults, files_failing, files_reads}
 use Rattle.byte_io.specs.declared.memory.MemFiles.{MemFiles}
 use Rattle.term_core.specs.declared.terms.Term.{Term}
@@ -22,27 +21,15 @@ use Rattle.ciao_top.specs.declared.stops.Stop.TheVariants as stop
 use Rattle.ciao_top.specs.FileSets.{HasQuery, generated_file, generated_files, generated_run}
 use Rattle.ciao_top.specs.Queries.{MeetsEntry}
 use Rattle.ciao_top.specs.Refused.{RunRefused}
-use Rattle.ciao_top.specs.Reports.{ReportAnswers}
-use Rattle.ciao_top.specs.Summaries.{answer_count, SummaryAnswers}
-use Rattle.ciao_top.specs.InnerAnswers.{IsProgramOf, GoesOn}
+use Rattle.ciao_top.specs.Summaries.{answer_count}
+use Rattle.ciao_top.specs.InnerAnswers.{GoesOn}
 
--- reports and summaries
-
--- for all files that agree with the reads, the report of a main file is this text with this status
-abbrev pub IsReported : List FileRead → Word → Word → ℕ → Type 0
-IsReported reads main text status = (program : Program) × IsProgramOf reads main program × ReportAnswers program text status
+-- modules
 
 -- the query of a generated module's run is this one of this program, which meets an entry
 pub record IsGenerated (made : GenerateWords) (program : Program) (query : Term) : Type 0 where
   pub has : HasQuery (generated_files made) (generated_run made) program query
   pub meets : MeetsEntry program query
-
--- the summary of a generated module is this text with this status
-pub record IsSummarised (made : GenerateWords) (text : Word) (status : ℕ) : Type 0 where
-  pub program : Program
-  pub query : Term
-  pub generated : IsGenerated made program query
-  pub answers : SummaryAnswers made program query text status
 
 -- why there is no summary of a generated module
 abbrev pub SummaryStops : GenerateWords → Stop → Type 0

@@ -4,9 +4,14 @@ use Rattle.std.specs.Prelude.{ℕ, List}
 use Rattle.term_core.specs.Standard.{IsMade}
 use Rattle.term_core.specs.declared.operators.Operators.{Operators}
 use Rattle.ciao_reader.specs.Laws.{OneGoal}
+use Rattle.prog_data.specs.declared.programs.Program.{Program}
+use Rattle.machine_model.specs.Tests.{Tests}
+use Rattle.machine_model.specs.Laws.{OneRun}
+use Rattle.name_order.specs.Relations.{Order}
+use Rattle.type_domain.specs.Laws.{AreOrdered}
 use Rattle.ciao_modules.specs.LoadLaws.{OneLoad, NoLoadRefused, OneLoadRefusal, OneRefusalName, OperatorsAreMade}
 
--- a load has one outcome, and a text is one goal by the operators of a unit
+-- a load has one outcome, a text is one goal by the operators of a unit, a run is one, and values say at least as much in an order
 pub record Relied : Type 0 where
   pub load : OneLoad
   pub unrefused : NoLoadRefused
@@ -14,3 +19,5 @@ pub record Relied : Type 0 where
   pub name : OneRefusalName
   pub operators : OperatorsAreMade
   pub goal : (ops : Operators) → IsMade ops → (bytes : List ℕ) → OneGoal ops bytes
+  pub run : (what : Tests) (program : Program) (bound : ℕ) → OneRun what program bound
+  pub ordered : (o : Order) → AreOrdered o

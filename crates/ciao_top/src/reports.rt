@@ -1,15 +1,14 @@
 // The report of a file.
 ghost use Rattle.std.specs.Prelude.{◌≡◌, true, IfOk, IfErr};
-ghost use Rattle.byte_io.specs.Outside.{Rose};
+ghost use Rattle.byte_io.specs.Outside.{Held, Rose};
 ghost use Rattle.prog_data.specs.Programs.{IsProgram};
 ghost use Rattle.ciao_modules.specs.FileNames.{is_main_file};
-ghost use Rattle.ciao_modules.specs.LoadReads.{new_reads};
+ghost use Rattle.ciao_modules.specs.LoadReads.{Agree, new_reads};
 ghost use Rattle.ciao_top.specs.WordsAccepted.{CheckFile};
 ghost use Rattle.ciao_top.specs.Lines.{joined};
 ghost use Rattle.ciao_top.specs.Reports.{HasStatuses, ReportAnswers};
-ghost use Rattle.ciao_top.specs.Answers.{output_of};
+ghost use Rattle.ciao_top.specs.Answers.{ReportsTo, output_of};
 ghost use Rattle.ciao_top.specs.InnerAnswers.{DeviceGoesOn, Comes, Only, Stops, CommandReads};
-ghost use Rattle.ciao_top.specs.InnerSummaries.{IsReported};
 
 use crate::prepare::program_of_file;
 use crate::runs::write_text;
@@ -63,7 +62,7 @@ pub(crate) fn report_file<F: Files>(
 ) -> Result<ToWrite, Stop>
     requires { is_main_file main.now ≡ true }
     ensures reads { CommandReads (F.held files.old) main.now (F.reads files.old) (F.reads files.new) }
-    ensures ok { IfOk result (λ report. IsReported (new_reads (F.reads files.old) (F.reads files.new)) main.now (joined report.lines) report.status) }
+    ensures ok { IfOk result (λ report. (held : Held) → Agree (new_reads (F.reads files.old) (F.reads files.new)) held → ReportsTo held main.now (joined report.lines) report.status) }
     ensures err { IfErr result (Stops (CheckFile main.now) (new_reads (F.reads files.old) (F.reads files.new)) (Rose (F.faults files.old) (F.faults files.new))) }
     ensures kept { F.held files.new ≡ F.held files.old }
     ensures files { DeviceGoesOn (F.steady files.old) (F.steady files.new) (F.faults files.old) (F.faults files.new) }

@@ -8,8 +8,9 @@ ghost use Rattle.run_report.specs.RunText.{ending_text};
 ghost use Rattle.ciao_top.specs.WordsTable.{most_generated};
 ghost use Rattle.ciao_top.specs.Lines.{joined};
 ghost use Rattle.ciao_top.specs.Summaries.{generated_line, answers_line, summary_lines, SummaryAnswers};
+ghost use Rattle.ciao_top.specs.Answers.{SummarisesTo};
 ghost use Rattle.ciao_top.specs.InnerAnswers.{generate_words, IsPrepared};
-ghost use Rattle.ciao_top.specs.InnerSummaries.{IsGenerated, IsSummarised, SummaryStops, HoldAlone, HoldGenerated, CountsTo, counting_behind, IsCounted, HasCounted};
+ghost use Rattle.ciao_top.specs.InnerSummaries.{IsGenerated, SummaryStops, HoldAlone, HoldGenerated, CountsTo, counting_behind, IsCounted, HasCounted};
 
 use crate::prepare::{Prepared, prepare};
 use crate::reports::{ToWrite, statuses};
@@ -222,7 +223,7 @@ fn summary(alloc: Global, made: GenerateCommand, prepared: &Prepared) -> Result<
 /// Why there is none.
 pub(crate) fn summarise(alloc: Global, made: GenerateCommand) -> Result<ToWrite, Stop>
     requires { made.count ≤ most_generated }
-    ensures ok { IfOk result (λ summary. IsSummarised (generate_words made) (joined summary.lines) summary.status) }
+    ensures ok { IfOk result (λ summary. SummarisesTo (generate_words made) (joined summary.lines) summary.status) }
     ensures err { IfErr result (SummaryStops (generate_words made)) }
 {
     match prepare_generated(alloc, made) {

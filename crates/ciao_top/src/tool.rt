@@ -15,7 +15,7 @@ use crate::summaries::summarise;
 use crate::words::{Command, read_words};
 use byte_io::{Files, Sink};
 use ciao_modules::some_load_law;
-use machine_model::{ends_law, one_run_law};
+use machine_model::ends_law;
 use std::alloc::Global;
 use std::thread::Threads;
 
@@ -87,7 +87,6 @@ pub fn one_answer_law()
     ensures { OneAnswer }
 {
     relied_law();
-    one_run_law();
 }
 
 /// For files and words it cannot be that there is no text and no status.

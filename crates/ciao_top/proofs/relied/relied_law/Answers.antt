@@ -8,4 +8,6 @@ returns c = record {
   name = c.refusal_name_law.ensures;
   operators = c.unit_operators_law.ensures;
   goal = c.one_goal_law.ensures.goal;
+  run = c.one_run_law.ensures;
+  ordered = c.order_law.ensures;
 }
