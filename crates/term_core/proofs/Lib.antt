@@ -12,6 +12,7 @@ mod OperatorLists
 pub mod OperatorTables
 mod OperatorTies
 mod OperatorTorn
+mod PendingLaws
 mod QuotingLemmas
 mod RangeLaws
 mod SequenceLaws

@@ -4,6 +4,7 @@ pub mod Names
 pub mod Operands
 pub mod OperatorLaws
 pub mod Operators
+pub mod Pending
 pub mod Printing
 pub mod Ranges
 pub mod Sequences

@@ -1,12 +1,13 @@
 // The text of a term.
-ghost use Rattle.std.specs.Prelude.{◌≡◌, ◌++◌, ◌∷◌, [], ◌||◌, false, map, codes, decimal, nat_lt, OnOk, OnErr, MatchOption, string_bytes, flat_map};
+ghost use Rattle.std.specs.Prelude.{◌≡◌, ◌<◌, ◌+◌, ◌++◌, ◌∷◌, [], ◌||◌, false, map, codes, decimal, nat_lt, OnOk, OnErr, MatchOption, string_bytes, flat_map};
 ghost use Rattle.std.specs.Fmt.{signed_decimal};
 ghost use Rattle.term_core.specs.declared.terms.Term.{out-Term};
 ghost use Rattle.term_core.specs.declared.fixed.TheConstants.{CELL};
 ghost use Rattle.term_core.specs.Lists.{GrewByPrefix};
+ghost use Rattle.term_core.specs.Pending.{piece_text, pending_text, piece_steps, pending_steps, steps, steps_of};
 ghost use Rattle.term_core.specs.Shapes.{is_pair};
 ghost use Rattle.term_core.specs.Operators.{prefix_of};
-ghost use Rattle.term_core.specs.Printing.{Printed, PrintedTail, shown_of, at_argument, at_operand, atom_text, name_shown, infix_name, compound_shown, Shown, one_shown, call_shown, plain_shown, prefix_text, in_parens, call_text, with_commas, after_comma};
+ghost use Rattle.term_core.specs.Printing.{Printed, PrintedTail, shown_of, at_argument, at_operand, atom_text, name_shown, infix_name, compound_shown, Shown, one_shown, call_shown, plain_shown, prefix_text, infix_text, in_parens, call_text, with_commas, after_comma};
 
 use crate::characters::is_name;
 use crate::quoting::push_quoted;
@@ -18,6 +19,24 @@ const ARGUMENT: u64 = 999;
 
 // The priority of prefix operators that are keywords of assertions, and are written before parentheses.
 const KEYWORD: u64 = 1150;
+
+// A piece of a text that is still to be printed.
+#[derive(Clone, Copy, Drop)]
+enum Piece<'t> {
+    // An argument of an operator, where this priority is allowed.
+    Operand(u64, &'t Term),
+    // An argument of a compound, or an item or the tail of a list.
+    Argument(&'t Term),
+    // Arguments, each behind a comma.
+    Others(&'t [Term]),
+    // What stands behind the items of a list before this tail.
+    Tail(&'t Term),
+    // The name of an infix operator between its arguments.
+    Infix(u64),
+    Parenthesis,
+    Brace,
+    Bracket,
+}
 
 // How terms are printed.
 #[derive(Clone, Copy, Drop)]
@@ -44,21 +63,89 @@ pub fn print_term(
 {
     let style = Style { names, ops, quoted };
     let mut text = String::new(names.allocator());
-    style.push_term(term, &mut text)?;
+    style.push_whole(term, &mut text)?;
     out.push_str(&text)?;
     Ok(())
 }
 
 impl Style<'_> {
-    #[cycle(printing)]
-    fn push_term(&self, term: &Term, out: &mut String) -> Result<(), NoMemory>
+    // The text of a term, without recursion: what is still to be printed stands on a list, the next piece last.
+    fn push_whole(&self, term: &Term, out: &mut String) -> Result<(), NoMemory>
         ensures { OnOk result (string_bytes out.new ≡ string_bytes out.old ++ Printed self.now.names.now self.now.ops.now self.now.quoted term.now) }
+    {
+        let mut pending = Vec::new(self.names.allocator());
+        self.push_term(term, &mut pending, out)?;
+        while let Some(piece) = self.take(&mut pending) {
+            self.push_piece(piece, &mut pending, out)?;
+        }
+        Ok(())
+    }
+
+    // Puts off a piece until all that comes before it is printed.
+    #[tactic(auto, using(crate::proofs::PendingLaws::text_put, crate::proofs::PendingLaws::steps_put))]
+    fn put<'t>(&self, piece: Piece<'t>, pending: &mut Vec<Piece<'t>>) -> Result<(), NoMemory>
+        ensures text { OnOk result (pending_text self.now.names.now self.now.ops.now self.now.quoted pending.new.items ≡ piece_text self.now.names.now self.now.ops.now self.now.quoted piece.entry ++ pending_text self.now.names.now self.now.ops.now self.now.quoted pending.old.items) }
+        ensures steps { OnOk result (pending_steps pending.new.items ≡ piece_steps piece.entry + pending_steps pending.old.items) }
+    {
+        pending.push(piece)?;
+        Ok(())
+    }
+
+    // The piece that is to be printed next.
+    fn take<'t>(&self, pending: &mut Vec<Piece<'t>>) -> Option<Piece<'t>>
+        ensures text { MatchOption result (pending_text self.now.names.now self.now.ops.now self.now.quoted pending.old.items ≡ []) (λ piece. pending_text self.now.names.now self.now.ops.now self.now.quoted pending.old.items ≡ piece_text self.now.names.now self.now.ops.now self.now.quoted piece ++ pending_text self.now.names.now self.now.ops.now self.now.quoted pending.new.items) }
+        ensures steps { MatchOption result (pending.old.items ≡ []) (λ piece. pending_steps pending.old.items ≡ piece_steps piece + pending_steps pending.new.items) }
+    {
+        pending.pop()
+    }
+
+    // Prints a piece, or its front, and puts off the rest.
+    fn push_piece<'t>(
+        &self,
+        piece: Piece<'t>,
+        pending: &mut Vec<Piece<'t>>,
+        out: &mut String,
+    ) -> Result<(), NoMemory>
+        ensures text { OnOk result (string_bytes out.new ++ pending_text self.now.names.now self.now.ops.now self.now.quoted pending.new.items ≡ string_bytes out.old ++ (piece_text self.now.names.now self.now.ops.now self.now.quoted piece.entry ++ pending_text self.now.names.now self.now.ops.now self.now.quoted pending.old.items)) }
+        ensures steps { OnOk result (pending_steps pending.new.items < piece_steps piece.entry + pending_steps pending.old.items) }
+    {
+        match piece {
+            Piece::Operand(limit, term) => self.push_operand(limit, term, pending, out),
+            Piece::Argument(term) => self.push_argument(term, pending, out),
+            Piece::Others(terms) => self.push_others(terms, pending, out),
+            Piece::Tail(term) => self.push_tail(term, pending, out),
+            Piece::Infix(name) => self.push_infix_name(name, out),
+            Piece::Parenthesis => {
+                out.push(')')?;
+                Ok(())
+            }
+            Piece::Brace => {
+                out.push('}')?;
+                Ok(())
+            }
+            Piece::Bracket => {
+                out.push(']')?;
+                Ok(())
+            }
+        }
+    }
+
+    fn push_term<'t>(
+        &self,
+        term: &'t Term,
+        pending: &mut Vec<Piece<'t>>,
+        out: &mut String,
+    ) -> Result<(), NoMemory>
+        ensures text { OnOk result (string_bytes out.new ++ pending_text self.now.names.now self.now.ops.now self.now.quoted pending.new.items ≡ string_bytes out.old ++ (Printed self.now.names.now self.now.ops.now self.now.quoted term.now ++ pending_text self.now.names.now self.now.ops.now self.now.quoted pending.old.items)) }
+        ensures steps { OnOk result (pending_steps pending.new.items < steps term.now + pending_steps pending.old.items) }
     {
         match term {
             Term::Var(variable) => push_variable(*variable, out),
             Term::Int(number) => push_integer(*number, out),
             Term::Atom(name) => self.push_atom(*name, out),
-            Term::Node(name, arguments) => self.push_compound(*name, arguments.as_slice(), out),
+            Term::Node(name, arguments) => {
+                self.push_compound(*name, arguments.as_slice(), pending, out)
+            }
         }
     }
 
@@ -86,36 +173,36 @@ impl Style<'_> {
         }
     }
 
-    #[cycle(printing)]
-    fn push_compound(&self, name: u64, arguments: &[Term], out: &mut String) -> Result<(), NoMemory>
-        ensures { OnOk result (string_bytes out.new ≡ string_bytes out.old ++ (compound_shown self.now.names.now self.now.ops.now self.now.quoted name (map (shown_of self.now.names.now self.now.ops.now self.now.quoted) arguments.now)).text) }
+    fn push_compound<'t>(
+        &self,
+        name: u64,
+        arguments: &'t [Term],
+        pending: &mut Vec<Piece<'t>>,
+        out: &mut String,
+    ) -> Result<(), NoMemory>
+        ensures text { OnOk result (string_bytes out.new ++ pending_text self.now.names.now self.now.ops.now self.now.quoted pending.new.items ≡ string_bytes out.old ++ ((compound_shown self.now.names.now self.now.ops.now self.now.quoted name (map (shown_of self.now.names.now self.now.ops.now self.now.quoted) arguments.now)).text ++ pending_text self.now.names.now self.now.ops.now self.now.quoted pending.old.items)) }
+        ensures steps { OnOk result (pending_steps pending.new.items < (steps_of (map steps arguments.now) + 4) + pending_steps pending.old.items) }
     {
         match arguments {
             [argument] => {
                 if name == BRACES {
-                    return self.push_in_braces(argument, out);
+                    return self.push_in_braces(argument, pending, out);
                 }
                 match self.prefix(name) {
-                    Some(op) => self.push_prefix(name, op, argument, out),
-                    None => self.push_call(name, arguments, out),
+                    Some(op) => self.push_prefix(name, op, argument, pending, out),
+                    None => self.push_call(name, arguments, pending, out),
                 }
             }
             [left, right] => {
                 if name == CELL {
-                    out.push('[')?;
-                    self.push_argument(left, out)?;
-                    return self.push_tail(right, out);
+                    return self.push_cell(left, right, pending, out);
                 }
                 match self.ops.infix(name) {
-                    Some(op) => {
-                        self.push_operand(op.left_limit(), left, out)?;
-                        self.push_infix_name(name, out)?;
-                        self.push_operand(op.right_limit(), right, out)
-                    }
-                    None => self.push_call(name, arguments, out),
+                    Some(op) => self.push_infix(name, op, left, right, pending, out),
+                    None => self.push_call(name, arguments, pending, out),
                 }
             }
-            _ => self.push_call(name, arguments, out),
+            _ => self.push_call(name, arguments, pending, out),
         }
     }
 
@@ -137,29 +224,66 @@ impl Style<'_> {
         }
     }
 
-    #[cycle(printing)]
-    fn push_in_braces(&self, term: &Term, out: &mut String) -> Result<(), NoMemory>
-        ensures { OnOk result (string_bytes out.new ≡ string_bytes out.old ++ (codes "{" ++ Printed self.now.names.now self.now.ops.now self.now.quoted term.now ++ codes "}")) }
+    fn push_in_braces<'t>(
+        &self,
+        term: &'t Term,
+        pending: &mut Vec<Piece<'t>>,
+        out: &mut String,
+    ) -> Result<(), NoMemory>
+        ensures text { OnOk result (string_bytes out.new ++ pending_text self.now.names.now self.now.ops.now self.now.quoted pending.new.items ≡ string_bytes out.old ++ ((codes "{" ++ Printed self.now.names.now self.now.ops.now self.now.quoted term.now ++ codes "}") ++ pending_text self.now.names.now self.now.ops.now self.now.quoted pending.old.items)) }
+        ensures steps { OnOk result (pending_steps pending.new.items < (steps term.now + 2) + pending_steps pending.old.items) }
     {
         out.push('{')?;
-        self.push_term(term, out)?;
-        out.push('}')?;
-        Ok(())
+        self.put(Piece::Brace, pending)?;
+        self.push_term(term, pending, out)
     }
 
-    #[cycle(printing)]
-    fn push_prefix(
+    fn push_prefix<'t>(
         &self,
         name: u64,
         op: Op,
-        argument: &Term,
+        argument: &'t Term,
+        pending: &mut Vec<Piece<'t>>,
         out: &mut String,
     ) -> Result<(), NoMemory>
-        ensures { OnOk result (string_bytes out.new ≡ string_bytes out.old ++ prefix_text self.now.names.now self.now.ops.now self.now.quoted name op (shown_of self.now.names.now self.now.ops.now self.now.quoted argument.now)) }
+        ensures text { OnOk result (string_bytes out.new ++ pending_text self.now.names.now self.now.ops.now self.now.quoted pending.new.items ≡ string_bytes out.old ++ (prefix_text self.now.names.now self.now.ops.now self.now.quoted name op (shown_of self.now.names.now self.now.ops.now self.now.quoted argument.now) ++ pending_text self.now.names.now self.now.ops.now self.now.quoted pending.old.items)) }
+        ensures steps { OnOk result (pending_steps pending.new.items < (steps argument.now + 3) + pending_steps pending.old.items) }
     {
         self.push_name(name, out)?;
         out.push(' ')?;
-        self.push_operand(op.right_limit(), argument, out)
+        self.put(Piece::Operand(op.right_limit(), argument), pending)
+    }
+
+    fn push_cell<'t>(
+        &self,
+        item: &'t Term,
+        tail: &'t Term,
+        pending: &mut Vec<Piece<'t>>,
+        out: &mut String,
+    ) -> Result<(), NoMemory>
+        ensures text { OnOk result (string_bytes out.new ++ pending_text self.now.names.now self.now.ops.now self.now.quoted pending.new.items ≡ string_bytes out.old ++ ((codes "[" ++ at_argument (shown_of self.now.names.now self.now.ops.now self.now.quoted item.now) ++ PrintedTail self.now.names.now self.now.ops.now self.now.quoted tail.now) ++ pending_text self.now.names.now self.now.ops.now self.now.quoted pending.old.items)) }
+        ensures steps { OnOk result (pending_steps pending.new.items < (steps item.now + steps tail.now + 7) + pending_steps pending.old.items) }
+    {
+        out.push('[')?;
+        self.put(Piece::Tail(tail), pending)?;
+        self.push_argument(item, pending, out)
+    }
+
+    fn push_infix<'t>(
+        &self,
+        name: u64,
+        op: Op,
+        left: &'t Term,
+        right: &'t Term,
+        pending: &mut Vec<Piece<'t>>,
+        out: &mut String,
+    ) -> Result<(), NoMemory>
+        ensures text { OnOk result (string_bytes out.new ++ pending_text self.now.names.now self.now.ops.now self.now.quoted pending.new.items ≡ string_bytes out.old ++ (infix_text self.now.names.now self.now.ops.now self.now.quoted name op (shown_of self.now.names.now self.now.ops.now self.now.quoted left.now) (shown_of self.now.names.now self.now.ops.now self.now.quoted right.now) ++ pending_text self.now.names.now self.now.ops.now self.now.quoted pending.old.items)) }
+        ensures steps { OnOk result (pending_steps pending.new.items < (steps left.now + steps right.now + 6) + pending_steps pending.old.items) }
+    {
+        self.put(Piece::Operand(op.right_limit(), right), pending)?;
+        self.put(Piece::Infix(name), pending)?;
+        self.push_operand(op.left_limit(), left, pending, out)
     }
 
     fn push_infix_name(&self, name: u64, out: &mut String) -> Result<(), NoMemory>
@@ -178,37 +302,52 @@ impl Style<'_> {
     }
 
     // An argument of an operator, where this priority is allowed.
-    #[cycle(printing)]
-    fn push_operand(&self, limit: u64, term: &Term, out: &mut String) -> Result<(), NoMemory>
-        ensures { OnOk result (string_bytes out.new ≡ string_bytes out.old ++ at_operand limit (shown_of self.now.names.now self.now.ops.now self.now.quoted term.now)) }
+    fn push_operand<'t>(
+        &self,
+        limit: u64,
+        term: &'t Term,
+        pending: &mut Vec<Piece<'t>>,
+        out: &mut String,
+    ) -> Result<(), NoMemory>
+        ensures text { OnOk result (string_bytes out.new ++ pending_text self.now.names.now self.now.ops.now self.now.quoted pending.new.items ≡ string_bytes out.old ++ (at_operand limit (shown_of self.now.names.now self.now.ops.now self.now.quoted term.now) ++ pending_text self.now.names.now self.now.ops.now self.now.quoted pending.old.items)) }
+        ensures steps { OnOk result (pending_steps pending.new.items < (steps term.now + 2) + pending_steps pending.old.items) }
     {
         if limit < self.priority(term) || self.is_operator(term) {
-            self.push_in_parens(term, out)
+            self.push_in_parens(term, pending, out)
         } else {
-            self.push_term(term, out)
+            self.push_term(term, pending, out)
         }
     }
 
     // An argument of a compound, or an item or the tail of a list.
-    #[cycle(printing)]
-    fn push_argument(&self, term: &Term, out: &mut String) -> Result<(), NoMemory>
-        ensures { OnOk result (string_bytes out.new ≡ string_bytes out.old ++ at_argument (shown_of self.now.names.now self.now.ops.now self.now.quoted term.now)) }
+    fn push_argument<'t>(
+        &self,
+        term: &'t Term,
+        pending: &mut Vec<Piece<'t>>,
+        out: &mut String,
+    ) -> Result<(), NoMemory>
+        ensures text { OnOk result (string_bytes out.new ++ pending_text self.now.names.now self.now.ops.now self.now.quoted pending.new.items ≡ string_bytes out.old ++ (at_argument (shown_of self.now.names.now self.now.ops.now self.now.quoted term.now) ++ pending_text self.now.names.now self.now.ops.now self.now.quoted pending.old.items)) }
+        ensures steps { OnOk result (pending_steps pending.new.items < (steps term.now + 2) + pending_steps pending.old.items) }
     {
         if ARGUMENT < self.priority(term) {
-            self.push_in_parens(term, out)
+            self.push_in_parens(term, pending, out)
         } else {
-            self.push_term(term, out)
+            self.push_term(term, pending, out)
         }
     }
 
-    #[cycle(printing)]
-    fn push_in_parens(&self, term: &Term, out: &mut String) -> Result<(), NoMemory>
-        ensures { OnOk result (string_bytes out.new ≡ string_bytes out.old ++ in_parens (Printed self.now.names.now self.now.ops.now self.now.quoted term.now)) }
+    fn push_in_parens<'t>(
+        &self,
+        term: &'t Term,
+        pending: &mut Vec<Piece<'t>>,
+        out: &mut String,
+    ) -> Result<(), NoMemory>
+        ensures text { OnOk result (string_bytes out.new ++ pending_text self.now.names.now self.now.ops.now self.now.quoted pending.new.items ≡ string_bytes out.old ++ (in_parens (Printed self.now.names.now self.now.ops.now self.now.quoted term.now) ++ pending_text self.now.names.now self.now.ops.now self.now.quoted pending.old.items)) }
+        ensures steps { OnOk result (pending_steps pending.new.items < (steps term.now + 2) + pending_steps pending.old.items) }
     {
         out.push('(')?;
-        self.push_term(term, out)?;
-        out.push(')')?;
-        Ok(())
+        self.put(Piece::Parenthesis, pending)?;
+        self.push_term(term, pending, out)
     }
 
     fn priority(&self, term: &Term) -> u64
@@ -269,69 +408,99 @@ impl Style<'_> {
     }
 
     // A name and, in parentheses, arguments.
-    #[cycle(printing)]
-    fn push_call(&self, name: u64, arguments: &[Term], out: &mut String) -> Result<(), NoMemory>
-        ensures { OnOk result (string_bytes out.new ≡ string_bytes out.old ++ call_text self.now.names.now self.now.ops.now self.now.quoted name (map at_argument (map (shown_of self.now.names.now self.now.ops.now self.now.quoted) arguments.now))) }
+    fn push_call<'t>(
+        &self,
+        name: u64,
+        arguments: &'t [Term],
+        pending: &mut Vec<Piece<'t>>,
+        out: &mut String,
+    ) -> Result<(), NoMemory>
+        ensures text { OnOk result (string_bytes out.new ++ pending_text self.now.names.now self.now.ops.now self.now.quoted pending.new.items ≡ string_bytes out.old ++ (call_text self.now.names.now self.now.ops.now self.now.quoted name (map at_argument (map (shown_of self.now.names.now self.now.ops.now self.now.quoted) arguments.now)) ++ pending_text self.now.names.now self.now.ops.now self.now.quoted pending.old.items)) }
+        ensures steps { OnOk result (pending_steps pending.new.items < (steps_of (map steps arguments.now) + 4) + pending_steps pending.old.items) }
     {
         self.push_name(name, out)?;
         out.push('(')?;
-        self.push_arguments(arguments, out)?;
-        out.push(')')?;
-        Ok(())
+        self.put(Piece::Parenthesis, pending)?;
+        self.push_arguments(arguments, pending, out)
     }
 
     // The arguments, with a comma between two.
-    #[cycle(printing)]
-    fn push_arguments(&self, arguments: &[Term], out: &mut String) -> Result<(), NoMemory>
-        ensures { OnOk result (string_bytes out.new ≡ string_bytes out.old ++ with_commas (map at_argument (map (shown_of self.now.names.now self.now.ops.now self.now.quoted) arguments.now))) }
+    fn push_arguments<'t>(
+        &self,
+        arguments: &'t [Term],
+        pending: &mut Vec<Piece<'t>>,
+        out: &mut String,
+    ) -> Result<(), NoMemory>
+        ensures text { OnOk result (string_bytes out.new ++ pending_text self.now.names.now self.now.ops.now self.now.quoted pending.new.items ≡ string_bytes out.old ++ (with_commas (map at_argument (map (shown_of self.now.names.now self.now.ops.now self.now.quoted) arguments.now)) ++ pending_text self.now.names.now self.now.ops.now self.now.quoted pending.old.items)) }
+        ensures steps { OnOk result (pending_steps pending.new.items < (steps_of (map steps arguments.now)) + pending_steps pending.old.items) }
     {
         match arguments.split_first() {
-            Some((first, others)) => {
-                self.push_argument(first, out)?;
-                for argument in others {
-                    self.push_after_comma(argument, out)?;
-                }
-                Ok(())
-            }
             None => Ok(()),
+            Some((first, others)) => {
+                self.put(Piece::Others(others), pending)?;
+                self.push_argument(first, pending, out)
+            }
         }
     }
 
-    #[cycle(printing)]
-    fn push_after_comma(&self, term: &Term, out: &mut String) -> Result<(), NoMemory>
-        ensures { OnOk result (string_bytes out.new ≡ string_bytes out.old ++ after_comma (at_argument (shown_of self.now.names.now self.now.ops.now self.now.quoted term.now))) }
+    // Arguments, each behind a comma.
+    fn push_others<'t>(
+        &self,
+        arguments: &'t [Term],
+        pending: &mut Vec<Piece<'t>>,
+        out: &mut String,
+    ) -> Result<(), NoMemory>
+        ensures text { OnOk result (string_bytes out.new ++ pending_text self.now.names.now self.now.ops.now self.now.quoted pending.new.items ≡ string_bytes out.old ++ (flat_map after_comma (map at_argument (map (shown_of self.now.names.now self.now.ops.now self.now.quoted) arguments.now)) ++ pending_text self.now.names.now self.now.ops.now self.now.quoted pending.old.items)) }
+        ensures steps { OnOk result (pending_steps pending.new.items < (steps_of (map steps arguments.now)) + pending_steps pending.old.items) }
     {
-        out.push(',')?;
-        self.push_argument(term, out)
+        match arguments.split_first() {
+            None => Ok(()),
+            Some((first, others)) => {
+                out.push(',')?;
+                self.put(Piece::Others(others), pending)?;
+                self.push_argument(first, pending, out)
+            }
+        }
     }
 
     // What stands behind the items of a list before this tail.
-    #[cycle(printing)]
-    fn push_tail(&self, tail: &Term, out: &mut String) -> Result<(), NoMemory>
-        ensures { OnOk result (string_bytes out.new ≡ string_bytes out.old ++ PrintedTail self.now.names.now self.now.ops.now self.now.quoted tail.now) }
+    fn push_tail<'t>(
+        &self,
+        tail: &'t Term,
+        pending: &mut Vec<Piece<'t>>,
+        out: &mut String,
+    ) -> Result<(), NoMemory>
+        ensures text { OnOk result (string_bytes out.new ++ pending_text self.now.names.now self.now.ops.now self.now.quoted pending.new.items ≡ string_bytes out.old ++ (PrintedTail self.now.names.now self.now.ops.now self.now.quoted tail.now ++ pending_text self.now.names.now self.now.ops.now self.now.quoted pending.old.items)) }
+        ensures steps { OnOk result (pending_steps pending.new.items < (steps tail.now + 4) + pending_steps pending.old.items) }
     {
-        let mut left = tail;
-        while let Some((item, rest)) = left.list_cell() {
-            self.push_after_comma(item, out)?;
-            left = rest;
+        match tail.list_cell() {
+            None => self.push_end(tail, pending, out),
+            Some((item, rest)) => {
+                out.push(',')?;
+                self.put(Piece::Tail(rest), pending)?;
+                self.push_argument(item, pending, out)
+            }
         }
-        self.push_end(left, out)
     }
 
     // The end of a list whose last tail is no cell.
-    #[cycle(printing)]
-    fn push_end(&self, tail: &Term, out: &mut String) -> Result<(), NoMemory>
+    fn push_end<'t>(
+        &self,
+        tail: &'t Term,
+        pending: &mut Vec<Piece<'t>>,
+        out: &mut String,
+    ) -> Result<(), NoMemory>
         requires { is_pair CELL (out-Term tail.now) ≡ false }
-        ensures { OnOk result (string_bytes out.new ≡ string_bytes out.old ++ PrintedTail self.now.names.now self.now.ops.now self.now.quoted tail.now) }
+        ensures text { OnOk result (string_bytes out.new ++ pending_text self.now.names.now self.now.ops.now self.now.quoted pending.new.items ≡ string_bytes out.old ++ (PrintedTail self.now.names.now self.now.ops.now self.now.quoted tail.now ++ pending_text self.now.names.now self.now.ops.now self.now.quoted pending.old.items)) }
+        ensures steps { OnOk result (pending_steps pending.new.items < (steps tail.now + 4) + pending_steps pending.old.items) }
     {
         if tail.is_empty_list() {
             out.push(']')?;
             return Ok(());
         }
         out.push('|')?;
-        self.push_argument(tail, out)?;
-        out.push(']')?;
-        Ok(())
+        self.put(Piece::Bracket, pending)?;
+        self.push_argument(tail, pending, out)
     }
 }
 

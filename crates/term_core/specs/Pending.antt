@@ -1,0 +1,59 @@
+-- What is still to be printed of a term: for the loop that prints it alone.
+-- The headline does not rest on this file.
+use Rattle.std.specs.Prelude.{ℕ, ◌+◌, Bool, List, [], ◌∷◌, ◌++◌, map, flat_map, codes}
+use Rattle.term_core.specs.declared.operators.Operators.{Operators}
+use Rattle.term_core.specs.declared.terms.Term.{Term}
+use Rattle.term_core.specs.declared.terms.Term.TheOpen.{Term-F, Var, Int, Atom, Node}
+use Rattle.term_core.specs.declared.terms.Term.TheFolds.{fold-Term}
+use Rattle.term_core.specs.declared.printing.Piece.{Piece}
+use Rattle.term_core.specs.declared.printing.Piece.TheVariants as piece
+use Rattle.term_core.specs.Printing.{shown_of, PrintedTail, at_argument, at_operand, after_comma, infix_name}
+
+module _ (names : List (List ℕ)) (ops : Operators) (quoted : Bool) where
+  -- the text of a piece
+  abbrev pub piece_text : Piece → List ℕ
+  piece_text (piece.Operand limit t) = at_operand limit (shown_of names ops quoted t.now)
+  piece_text (piece.Argument t) = at_argument (shown_of names ops quoted t.now)
+  piece_text (piece.Others ts) = flat_map after_comma (map at_argument (map (shown_of names ops quoted) ts.now))
+  piece_text (piece.Tail t) = PrintedTail names ops quoted t.now
+  piece_text (piece.Infix f) = infix_name names ops quoted f
+  piece_text piece.Parenthesis = codes ")"
+  piece_text piece.Brace = codes "}"
+  piece_text piece.Bracket = codes "]"
+
+  -- the text of all that is put off, the next piece last
+  abbrev pub pending_text : List Piece → List ℕ
+  pending_text [] = []
+  pending_text (p ∷ ps) = pending_text ps ++ piece_text p
+
+-- more steps than printing some arguments takes, where each takes so many
+abbrev pub steps_of : List ℕ → ℕ
+steps_of [] = 1
+steps_of (n ∷ ns) = n + 4 + steps_of ns
+
+-- more steps than printing a term takes, where its parts take so many
+abbrev pub steps_step : Term-F ℕ → ℕ
+steps_step (Var v) = 1
+steps_step (Int n) = 1
+steps_step (Atom a) = 1
+steps_step (Node f ns) = steps_of ns + 4
+
+-- more steps than printing a term takes
+abbrev pub steps : Term → ℕ
+steps = fold-Term ℕ steps_step
+
+-- more steps than printing a piece takes
+abbrev pub piece_steps : Piece → ℕ
+piece_steps (piece.Operand limit t) = steps t.now + 2
+piece_steps (piece.Argument t) = steps t.now + 2
+piece_steps (piece.Others ts) = steps_of (map steps ts.now)
+piece_steps (piece.Tail t) = steps t.now + 4
+piece_steps (piece.Infix f) = 1
+piece_steps piece.Parenthesis = 1
+piece_steps piece.Brace = 1
+piece_steps piece.Bracket = 1
+
+-- more steps than printing all that is put off takes
+abbrev pub pending_steps : List Piece → ℕ
+pending_steps [] = 0
+pending_steps (p ∷ ps) = piece_steps p + pending_steps ps
