@@ -1,5 +1,5 @@
 -- What is put off where a term is printed.
-use Rattle.std.proofs.Common.{◌≡◌, ℕ, ◌+◌, Bool, List, [], ◌∷◌, ◌++◌, refl, ap, sym, ◌∙◌, arith}
+use Rattle.std.proofs.Common.{◌≡◌, ℕ, ◌+◌, Bool, List, [], ◌∷◌, ◌++◌, length, refl, ap, sym, ◌∙◌, arith}
 use Rattle.std.proofs.lemmas.List.{append_assoc}
 use Rattle.term_core.specs.declared.operators.Operators.{Operators}
 use Rattle.term_core.specs.declared.printing.Piece.{Piece}
@@ -20,6 +20,10 @@ text_put names ops quoted (q ∷ qs) p =
 pub steps_put : (ps : List Piece) (p : Piece) → pending_steps (ps ++ p ∷ []) ≡ piece_steps p + pending_steps ps
 steps_put [] p = refl
 steps_put (q ∷ qs) p = omega (arith, steps_put qs p)
+
+pub no_pieces : (ps : List Piece) → length ps ≡ 0 → ps ≡ []
+no_pieces [] e = refl
+no_pieces (p ∷ ps) e = absurd (omega (arith, e))
 
 -- a text behind the bar, and then what is put off
 pub behind_bar : (start bar argument close after whole : List ℕ) → whole ≡ bar ++ (argument ++ close) → (start ++ bar) ++ (argument ++ (close ++ after)) ≡ start ++ (whole ++ after)

@@ -4,7 +4,7 @@ ghost use Rattle.std.specs.Fmt.{signed_decimal};
 ghost use Rattle.term_core.specs.declared.terms.Term.{out-Term};
 ghost use Rattle.term_core.specs.declared.fixed.TheConstants.{CELL};
 ghost use Rattle.term_core.specs.Lists.{GrewByPrefix};
-ghost use Rattle.term_core.specs.Pending.{piece_text, pending_text, piece_steps, pending_steps, steps, steps_of};
+ghost use Rattle.term_core.specs.Pending.{piece_text, pending_text, Prints, piece_steps, pending_steps, steps, steps_of, TakesSteps};
 ghost use Rattle.term_core.specs.Shapes.{is_pair};
 ghost use Rattle.term_core.specs.Operators.{prefix_of};
 ghost use Rattle.term_core.specs.Printing.{Printed, PrintedTail, shown_of, at_argument, at_operand, atom_text, name_shown, infix_name, compound_shown, Shown, one_shown, call_shown, plain_shown, prefix_text, infix_text, in_parens, call_text, with_commas, after_comma};
@@ -23,6 +23,7 @@ const KEYWORD: u64 = 1150;
 // A piece of a text that is still to be printed.
 #[derive(Clone, Copy, Drop)]
 enum Piece<'t> {
+    Whole(&'t Term),
     // An argument of an operator, where this priority is allowed.
     Operand(u64, &'t Term),
     // An argument of a compound, or an item or the tail of a list.
@@ -92,11 +93,15 @@ impl Style<'_> {
     }
 
     // The piece that is to be printed next.
+    #[tactic(auto, using(crate::proofs::PendingLaws::text_put, crate::proofs::PendingLaws::steps_put))]
     fn take<'t>(&self, pending: &mut Vec<Piece<'t>>) -> Option<Piece<'t>>
         ensures text { MatchOption result (pending_text self.now.names.now self.now.ops.now self.now.quoted pending.old.items ≡ []) (λ piece. pending_text self.now.names.now self.now.ops.now self.now.quoted pending.old.items ≡ piece_text self.now.names.now self.now.ops.now self.now.quoted piece ++ pending_text self.now.names.now self.now.ops.now self.now.quoted pending.new.items) }
         ensures steps { MatchOption result (pending.old.items ≡ []) (λ piece. pending_steps pending.old.items ≡ piece_steps piece + pending_steps pending.new.items) }
     {
-        pending.pop()
+        match pending.pop() {
+            None => None,
+            Some(piece) => Some(piece),
+        }
     }
 
     // Prints a piece, or its front, and puts off the rest.
@@ -106,10 +111,11 @@ impl Style<'_> {
         pending: &mut Vec<Piece<'t>>,
         out: &mut String,
     ) -> Result<(), NoMemory>
-        ensures text { OnOk result (string_bytes out.new ++ pending_text self.now.names.now self.now.ops.now self.now.quoted pending.new.items ≡ string_bytes out.old ++ (piece_text self.now.names.now self.now.ops.now self.now.quoted piece.entry ++ pending_text self.now.names.now self.now.ops.now self.now.quoted pending.old.items)) }
-        ensures steps { OnOk result (pending_steps pending.new.items < piece_steps piece.entry + pending_steps pending.old.items) }
+        ensures text { OnOk result (Prints self.now.names.now self.now.ops.now self.now.quoted (piece_text self.now.names.now self.now.ops.now self.now.quoted piece.entry) (string_bytes out.old) pending.old.items (string_bytes out.new) pending.new.items) }
+        ensures steps { OnOk result (TakesSteps (piece_steps piece.entry) pending.old.items pending.new.items) }
     {
         match piece {
+            Piece::Whole(term) => self.push_term(term, pending, out),
             Piece::Operand(limit, term) => self.push_operand(limit, term, pending, out),
             Piece::Argument(term) => self.push_argument(term, pending, out),
             Piece::Others(terms) => self.push_others(terms, pending, out),
@@ -136,8 +142,8 @@ impl Style<'_> {
         pending: &mut Vec<Piece<'t>>,
         out: &mut String,
     ) -> Result<(), NoMemory>
-        ensures text { OnOk result (string_bytes out.new ++ pending_text self.now.names.now self.now.ops.now self.now.quoted pending.new.items ≡ string_bytes out.old ++ (Printed self.now.names.now self.now.ops.now self.now.quoted term.now ++ pending_text self.now.names.now self.now.ops.now self.now.quoted pending.old.items)) }
-        ensures steps { OnOk result (pending_steps pending.new.items < steps term.now + pending_steps pending.old.items) }
+        ensures text { OnOk result (Prints self.now.names.now self.now.ops.now self.now.quoted (Printed self.now.names.now self.now.ops.now self.now.quoted term.now) (string_bytes out.old) pending.old.items (string_bytes out.new) pending.new.items) }
+        ensures steps { OnOk result (TakesSteps (steps term.now) pending.old.items pending.new.items) }
     {
         match term {
             Term::Var(variable) => push_variable(*variable, out),
@@ -180,8 +186,8 @@ impl Style<'_> {
         pending: &mut Vec<Piece<'t>>,
         out: &mut String,
     ) -> Result<(), NoMemory>
-        ensures text { OnOk result (string_bytes out.new ++ pending_text self.now.names.now self.now.ops.now self.now.quoted pending.new.items ≡ string_bytes out.old ++ ((compound_shown self.now.names.now self.now.ops.now self.now.quoted name (map (shown_of self.now.names.now self.now.ops.now self.now.quoted) arguments.now)).text ++ pending_text self.now.names.now self.now.ops.now self.now.quoted pending.old.items)) }
-        ensures steps { OnOk result (pending_steps pending.new.items < (steps_of (map steps arguments.now) + 4) + pending_steps pending.old.items) }
+        ensures text { OnOk result (Prints self.now.names.now self.now.ops.now self.now.quoted (compound_shown self.now.names.now self.now.ops.now self.now.quoted name (map (shown_of self.now.names.now self.now.ops.now self.now.quoted) arguments.now)).text (string_bytes out.old) pending.old.items (string_bytes out.new) pending.new.items) }
+        ensures steps { OnOk result (TakesSteps (steps_of (map steps arguments.now) + 4) pending.old.items pending.new.items) }
     {
         match arguments {
             [argument] => {
@@ -198,7 +204,7 @@ impl Style<'_> {
                     return self.push_cell(left, right, pending, out);
                 }
                 match self.ops.infix(name) {
-                    Some(op) => self.push_infix(name, op, left, right, pending, out),
+                    Some(op) => self.push_infix(name, op, left, right, pending),
                     None => self.push_call(name, arguments, pending, out),
                 }
             }
@@ -230,12 +236,12 @@ impl Style<'_> {
         pending: &mut Vec<Piece<'t>>,
         out: &mut String,
     ) -> Result<(), NoMemory>
-        ensures text { OnOk result (string_bytes out.new ++ pending_text self.now.names.now self.now.ops.now self.now.quoted pending.new.items ≡ string_bytes out.old ++ ((codes "{" ++ Printed self.now.names.now self.now.ops.now self.now.quoted term.now ++ codes "}") ++ pending_text self.now.names.now self.now.ops.now self.now.quoted pending.old.items)) }
-        ensures steps { OnOk result (pending_steps pending.new.items < (steps term.now + 2) + pending_steps pending.old.items) }
+        ensures text { OnOk result (Prints self.now.names.now self.now.ops.now self.now.quoted (codes "{" ++ Printed self.now.names.now self.now.ops.now self.now.quoted term.now ++ codes "}") (string_bytes out.old) pending.old.items (string_bytes out.new) pending.new.items) }
+        ensures steps { OnOk result (TakesSteps (steps term.now + 2) pending.old.items pending.new.items) }
     {
         out.push('{')?;
         self.put(Piece::Brace, pending)?;
-        self.push_term(term, pending, out)
+        self.put(Piece::Whole(term), pending)
     }
 
     fn push_prefix<'t>(
@@ -246,8 +252,8 @@ impl Style<'_> {
         pending: &mut Vec<Piece<'t>>,
         out: &mut String,
     ) -> Result<(), NoMemory>
-        ensures text { OnOk result (string_bytes out.new ++ pending_text self.now.names.now self.now.ops.now self.now.quoted pending.new.items ≡ string_bytes out.old ++ (prefix_text self.now.names.now self.now.ops.now self.now.quoted name op (shown_of self.now.names.now self.now.ops.now self.now.quoted argument.now) ++ pending_text self.now.names.now self.now.ops.now self.now.quoted pending.old.items)) }
-        ensures steps { OnOk result (pending_steps pending.new.items < (steps argument.now + 3) + pending_steps pending.old.items) }
+        ensures text { OnOk result (Prints self.now.names.now self.now.ops.now self.now.quoted (prefix_text self.now.names.now self.now.ops.now self.now.quoted name op (shown_of self.now.names.now self.now.ops.now self.now.quoted argument.now)) (string_bytes out.old) pending.old.items (string_bytes out.new) pending.new.items) }
+        ensures steps { OnOk result (TakesSteps (steps argument.now + 3) pending.old.items pending.new.items) }
     {
         self.push_name(name, out)?;
         out.push(' ')?;
@@ -261,12 +267,12 @@ impl Style<'_> {
         pending: &mut Vec<Piece<'t>>,
         out: &mut String,
     ) -> Result<(), NoMemory>
-        ensures text { OnOk result (string_bytes out.new ++ pending_text self.now.names.now self.now.ops.now self.now.quoted pending.new.items ≡ string_bytes out.old ++ ((codes "[" ++ at_argument (shown_of self.now.names.now self.now.ops.now self.now.quoted item.now) ++ PrintedTail self.now.names.now self.now.ops.now self.now.quoted tail.now) ++ pending_text self.now.names.now self.now.ops.now self.now.quoted pending.old.items)) }
-        ensures steps { OnOk result (pending_steps pending.new.items < (steps item.now + steps tail.now + 7) + pending_steps pending.old.items) }
+        ensures text { OnOk result (Prints self.now.names.now self.now.ops.now self.now.quoted (codes "[" ++ at_argument (shown_of self.now.names.now self.now.ops.now self.now.quoted item.now) ++ PrintedTail self.now.names.now self.now.ops.now self.now.quoted tail.now) (string_bytes out.old) pending.old.items (string_bytes out.new) pending.new.items) }
+        ensures steps { OnOk result (TakesSteps (steps item.now + steps tail.now + 7) pending.old.items pending.new.items) }
     {
         out.push('[')?;
         self.put(Piece::Tail(tail), pending)?;
-        self.push_argument(item, pending, out)
+        self.put(Piece::Argument(item), pending)
     }
 
     fn push_infix<'t>(
@@ -276,14 +282,13 @@ impl Style<'_> {
         left: &'t Term,
         right: &'t Term,
         pending: &mut Vec<Piece<'t>>,
-        out: &mut String,
     ) -> Result<(), NoMemory>
-        ensures text { OnOk result (string_bytes out.new ++ pending_text self.now.names.now self.now.ops.now self.now.quoted pending.new.items ≡ string_bytes out.old ++ (infix_text self.now.names.now self.now.ops.now self.now.quoted name op (shown_of self.now.names.now self.now.ops.now self.now.quoted left.now) (shown_of self.now.names.now self.now.ops.now self.now.quoted right.now) ++ pending_text self.now.names.now self.now.ops.now self.now.quoted pending.old.items)) }
-        ensures steps { OnOk result (pending_steps pending.new.items < (steps left.now + steps right.now + 6) + pending_steps pending.old.items) }
+        ensures text { OnOk result (pending_text self.now.names.now self.now.ops.now self.now.quoted pending.new.items ≡ infix_text self.now.names.now self.now.ops.now self.now.quoted name op (shown_of self.now.names.now self.now.ops.now self.now.quoted left.now) (shown_of self.now.names.now self.now.ops.now self.now.quoted right.now) ++ pending_text self.now.names.now self.now.ops.now self.now.quoted pending.old.items) }
+        ensures steps { OnOk result (TakesSteps (steps left.now + steps right.now + 6) pending.old.items pending.new.items) }
     {
         self.put(Piece::Operand(op.right_limit(), right), pending)?;
         self.put(Piece::Infix(name), pending)?;
-        self.push_operand(op.left_limit(), left, pending, out)
+        self.put(Piece::Operand(op.left_limit(), left), pending)
     }
 
     fn push_infix_name(&self, name: u64, out: &mut String) -> Result<(), NoMemory>
@@ -309,8 +314,8 @@ impl Style<'_> {
         pending: &mut Vec<Piece<'t>>,
         out: &mut String,
     ) -> Result<(), NoMemory>
-        ensures text { OnOk result (string_bytes out.new ++ pending_text self.now.names.now self.now.ops.now self.now.quoted pending.new.items ≡ string_bytes out.old ++ (at_operand limit (shown_of self.now.names.now self.now.ops.now self.now.quoted term.now) ++ pending_text self.now.names.now self.now.ops.now self.now.quoted pending.old.items)) }
-        ensures steps { OnOk result (pending_steps pending.new.items < (steps term.now + 2) + pending_steps pending.old.items) }
+        ensures text { OnOk result (Prints self.now.names.now self.now.ops.now self.now.quoted (at_operand limit (shown_of self.now.names.now self.now.ops.now self.now.quoted term.now)) (string_bytes out.old) pending.old.items (string_bytes out.new) pending.new.items) }
+        ensures steps { OnOk result (TakesSteps (steps term.now + 2) pending.old.items pending.new.items) }
     {
         if limit < self.priority(term) || self.is_operator(term) {
             self.push_in_parens(term, pending, out)
@@ -326,8 +331,8 @@ impl Style<'_> {
         pending: &mut Vec<Piece<'t>>,
         out: &mut String,
     ) -> Result<(), NoMemory>
-        ensures text { OnOk result (string_bytes out.new ++ pending_text self.now.names.now self.now.ops.now self.now.quoted pending.new.items ≡ string_bytes out.old ++ (at_argument (shown_of self.now.names.now self.now.ops.now self.now.quoted term.now) ++ pending_text self.now.names.now self.now.ops.now self.now.quoted pending.old.items)) }
-        ensures steps { OnOk result (pending_steps pending.new.items < (steps term.now + 2) + pending_steps pending.old.items) }
+        ensures text { OnOk result (Prints self.now.names.now self.now.ops.now self.now.quoted (at_argument (shown_of self.now.names.now self.now.ops.now self.now.quoted term.now)) (string_bytes out.old) pending.old.items (string_bytes out.new) pending.new.items) }
+        ensures steps { OnOk result (TakesSteps (steps term.now + 2) pending.old.items pending.new.items) }
     {
         if ARGUMENT < self.priority(term) {
             self.push_in_parens(term, pending, out)
@@ -342,8 +347,8 @@ impl Style<'_> {
         pending: &mut Vec<Piece<'t>>,
         out: &mut String,
     ) -> Result<(), NoMemory>
-        ensures text { OnOk result (string_bytes out.new ++ pending_text self.now.names.now self.now.ops.now self.now.quoted pending.new.items ≡ string_bytes out.old ++ (in_parens (Printed self.now.names.now self.now.ops.now self.now.quoted term.now) ++ pending_text self.now.names.now self.now.ops.now self.now.quoted pending.old.items)) }
-        ensures steps { OnOk result (pending_steps pending.new.items < (steps term.now + 2) + pending_steps pending.old.items) }
+        ensures text { OnOk result (Prints self.now.names.now self.now.ops.now self.now.quoted (in_parens (Printed self.now.names.now self.now.ops.now self.now.quoted term.now)) (string_bytes out.old) pending.old.items (string_bytes out.new) pending.new.items) }
+        ensures steps { OnOk result (TakesSteps (steps term.now + 2) pending.old.items pending.new.items) }
     {
         out.push('(')?;
         self.put(Piece::Parenthesis, pending)?;
@@ -415,8 +420,8 @@ impl Style<'_> {
         pending: &mut Vec<Piece<'t>>,
         out: &mut String,
     ) -> Result<(), NoMemory>
-        ensures text { OnOk result (string_bytes out.new ++ pending_text self.now.names.now self.now.ops.now self.now.quoted pending.new.items ≡ string_bytes out.old ++ (call_text self.now.names.now self.now.ops.now self.now.quoted name (map at_argument (map (shown_of self.now.names.now self.now.ops.now self.now.quoted) arguments.now)) ++ pending_text self.now.names.now self.now.ops.now self.now.quoted pending.old.items)) }
-        ensures steps { OnOk result (pending_steps pending.new.items < (steps_of (map steps arguments.now) + 4) + pending_steps pending.old.items) }
+        ensures text { OnOk result (Prints self.now.names.now self.now.ops.now self.now.quoted (call_text self.now.names.now self.now.ops.now self.now.quoted name (map at_argument (map (shown_of self.now.names.now self.now.ops.now self.now.quoted) arguments.now))) (string_bytes out.old) pending.old.items (string_bytes out.new) pending.new.items) }
+        ensures steps { OnOk result (TakesSteps (steps_of (map steps arguments.now) + 4) pending.old.items pending.new.items) }
     {
         self.push_name(name, out)?;
         out.push('(')?;
@@ -431,14 +436,14 @@ impl Style<'_> {
         pending: &mut Vec<Piece<'t>>,
         out: &mut String,
     ) -> Result<(), NoMemory>
-        ensures text { OnOk result (string_bytes out.new ++ pending_text self.now.names.now self.now.ops.now self.now.quoted pending.new.items ≡ string_bytes out.old ++ (with_commas (map at_argument (map (shown_of self.now.names.now self.now.ops.now self.now.quoted) arguments.now)) ++ pending_text self.now.names.now self.now.ops.now self.now.quoted pending.old.items)) }
-        ensures steps { OnOk result (pending_steps pending.new.items < (steps_of (map steps arguments.now)) + pending_steps pending.old.items) }
+        ensures text { OnOk result (Prints self.now.names.now self.now.ops.now self.now.quoted (with_commas (map at_argument (map (shown_of self.now.names.now self.now.ops.now self.now.quoted) arguments.now))) (string_bytes out.old) pending.old.items (string_bytes out.new) pending.new.items) }
+        ensures steps { OnOk result (TakesSteps (steps_of (map steps arguments.now)) pending.old.items pending.new.items) }
     {
         match arguments.split_first() {
             None => Ok(()),
             Some((first, others)) => {
                 self.put(Piece::Others(others), pending)?;
-                self.push_argument(first, pending, out)
+                self.put(Piece::Argument(first), pending)
             }
         }
     }
@@ -450,15 +455,15 @@ impl Style<'_> {
         pending: &mut Vec<Piece<'t>>,
         out: &mut String,
     ) -> Result<(), NoMemory>
-        ensures text { OnOk result (string_bytes out.new ++ pending_text self.now.names.now self.now.ops.now self.now.quoted pending.new.items ≡ string_bytes out.old ++ (flat_map after_comma (map at_argument (map (shown_of self.now.names.now self.now.ops.now self.now.quoted) arguments.now)) ++ pending_text self.now.names.now self.now.ops.now self.now.quoted pending.old.items)) }
-        ensures steps { OnOk result (pending_steps pending.new.items < (steps_of (map steps arguments.now)) + pending_steps pending.old.items) }
+        ensures text { OnOk result (Prints self.now.names.now self.now.ops.now self.now.quoted (flat_map after_comma (map at_argument (map (shown_of self.now.names.now self.now.ops.now self.now.quoted) arguments.now))) (string_bytes out.old) pending.old.items (string_bytes out.new) pending.new.items) }
+        ensures steps { OnOk result (TakesSteps (steps_of (map steps arguments.now)) pending.old.items pending.new.items) }
     {
         match arguments.split_first() {
             None => Ok(()),
             Some((first, others)) => {
                 out.push(',')?;
                 self.put(Piece::Others(others), pending)?;
-                self.push_argument(first, pending, out)
+                self.put(Piece::Argument(first), pending)
             }
         }
     }
@@ -470,15 +475,15 @@ impl Style<'_> {
         pending: &mut Vec<Piece<'t>>,
         out: &mut String,
     ) -> Result<(), NoMemory>
-        ensures text { OnOk result (string_bytes out.new ++ pending_text self.now.names.now self.now.ops.now self.now.quoted pending.new.items ≡ string_bytes out.old ++ (PrintedTail self.now.names.now self.now.ops.now self.now.quoted tail.now ++ pending_text self.now.names.now self.now.ops.now self.now.quoted pending.old.items)) }
-        ensures steps { OnOk result (pending_steps pending.new.items < (steps tail.now + 4) + pending_steps pending.old.items) }
+        ensures text { OnOk result (Prints self.now.names.now self.now.ops.now self.now.quoted (PrintedTail self.now.names.now self.now.ops.now self.now.quoted tail.now) (string_bytes out.old) pending.old.items (string_bytes out.new) pending.new.items) }
+        ensures steps { OnOk result (TakesSteps (steps tail.now + 4) pending.old.items pending.new.items) }
     {
         match tail.list_cell() {
             None => self.push_end(tail, pending, out),
             Some((item, rest)) => {
                 out.push(',')?;
                 self.put(Piece::Tail(rest), pending)?;
-                self.push_argument(item, pending, out)
+                self.put(Piece::Argument(item), pending)
             }
         }
     }
@@ -491,8 +496,8 @@ impl Style<'_> {
         out: &mut String,
     ) -> Result<(), NoMemory>
         requires { is_pair CELL (out-Term tail.now) ≡ false }
-        ensures text { OnOk result (string_bytes out.new ++ pending_text self.now.names.now self.now.ops.now self.now.quoted pending.new.items ≡ string_bytes out.old ++ (PrintedTail self.now.names.now self.now.ops.now self.now.quoted tail.now ++ pending_text self.now.names.now self.now.ops.now self.now.quoted pending.old.items)) }
-        ensures steps { OnOk result (pending_steps pending.new.items < (steps tail.now + 4) + pending_steps pending.old.items) }
+        ensures text { OnOk result (Prints self.now.names.now self.now.ops.now self.now.quoted (PrintedTail self.now.names.now self.now.ops.now self.now.quoted tail.now) (string_bytes out.old) pending.old.items (string_bytes out.new) pending.new.items) }
+        ensures steps { OnOk result (TakesSteps (steps tail.now + 4) pending.old.items pending.new.items) }
     {
         if tail.is_empty_list() {
             out.push(']')?;
@@ -500,7 +505,8 @@ impl Style<'_> {
         }
         out.push('|')?;
         self.put(Piece::Bracket, pending)?;
-        self.push_argument(tail, pending, out)
+        self.put(Piece::Argument(tail), pending)?;
+        Ok(())
     }
 }
 
