@@ -26,6 +26,7 @@ pub mod TermLaws
 mod TextLemmas
 pub mod Turns
 pub mod UnifyEnds
+mod UnseenLaws
 pub mod VarLemmas
 pub mod VariantLaws
 pub mod VariantStages

@@ -12,7 +12,9 @@ pub mod Shapes
 pub mod Sizes
 pub mod Solutions
 pub mod Standard
+pub mod Steps
 pub mod Terms
 pub mod Unify
+pub mod Unseen
 pub mod VariantTests
 pub mod Variants

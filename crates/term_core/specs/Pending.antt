@@ -2,12 +2,10 @@
 -- The headline does not rest on this file.
 use Rattle.std.specs.Prelude.{ℕ, ◌≡◌, ◌<◌, ◌+◌, Bool, List, [], ◌∷◌, ◌++◌, map, flat_map, codes}
 use Rattle.term_core.specs.declared.operators.Operators.{Operators}
-use Rattle.term_core.specs.declared.terms.Term.{Term}
-use Rattle.term_core.specs.declared.terms.Term.TheOpen.{Term-F, Var, Int, Atom, Node}
-use Rattle.term_core.specs.declared.terms.Term.TheFolds.{fold-Term}
 use Rattle.term_core.specs.declared.printing.Piece.{Piece}
 use Rattle.term_core.specs.declared.printing.Piece.TheVariants as piece
 use Rattle.term_core.specs.Printing.{shown_of, Printed, PrintedTail, at_argument, at_operand, after_comma, infix_name}
+use Rattle.term_core.specs.Steps.{steps, steps_of}
 
 module _ (names : List (List ℕ)) (ops : Operators) (quoted : Bool) where
   -- the text of a piece
@@ -31,23 +29,7 @@ module _ (names : List (List ℕ)) (ops : Operators) (quoted : Bool) where
   abbrev pub Prints : List ℕ → (written : List ℕ) → (old : List Piece) → (writes : List ℕ) → (new : List Piece) → Type 0
   Prints text written old writes new = writes ++ pending_text new ≡ written ++ (text ++ pending_text old)
 
--- more steps than printing some arguments takes, where each takes so many
-abbrev pub steps_of : List ℕ → ℕ
-steps_of [] = 1
-steps_of (n ∷ ns) = n + 4 + steps_of ns
-
--- more steps than printing a term takes, where its parts take so many
-abbrev pub steps_step : Term-F ℕ → ℕ
-steps_step (Var v) = 1
-steps_step (Int n) = 1
-steps_step (Atom a) = 1
-steps_step (Node f ns) = steps_of ns + 4
-
--- more steps than printing a term takes
-abbrev pub steps : Term → ℕ
-steps = fold-Term ℕ steps_step
-
--- more steps than printing a piece takes
+-- the steps for a piece
 abbrev pub piece_steps : Piece → ℕ
 piece_steps (piece.Whole t) = steps t.now
 piece_steps (piece.Operand limit t) = steps t.now + 2
@@ -59,11 +41,11 @@ piece_steps piece.Parenthesis = 1
 piece_steps piece.Brace = 1
 piece_steps piece.Bracket = 1
 
--- more steps than printing all that is put off takes
+-- the steps for all that is put off
 abbrev pub pending_steps : List Piece → ℕ
 pending_steps [] = 0
 pending_steps (p ∷ ps) = piece_steps p + pending_steps ps
 
--- less than so many steps more are put off
+-- fewer steps are put off than these and those that were put off before
 abbrev pub TakesSteps : ℕ → (old new : List Piece) → Type 0
 TakesSteps n old new = pending_steps new < n + pending_steps old

@@ -9,7 +9,7 @@ use Rattle.term_core.proofs.printing.Style.push_end.Goals as goal
 
 pub returns-clause-text : goal.returns-clause-text
 unfolding lib.Utf8.encode
-returns-clause-text t c =
+returns-clause-text c =
     let style = c.args.self.now in
     let argument = at_argument (shown_of style.names.now style.ops.now style.quoted c.args.tail.now) in
     let tail = tail_behind_bar style.names.now style.ops.now style.quoted c.args.tail.now c.requires (sym c.is_empty_list.ensures ∙ c.if-is_empty_list.false) in
