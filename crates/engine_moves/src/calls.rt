@@ -22,8 +22,8 @@ use crate::readings::Reading;
 use crate::turns::Turn;
 use clause_index::{left_out_law, selected_law};
 use engine_state::{
-    Alternative, Counted, Engine, Exit, Pending, Row, Stage, calls_law, chosen_law, moments_give_law,
-    moments_law, moves_law, notes_law, pushed_law, test_all, tests_law,
+    Alternative, Counted, Engine, Exit, Pending, Row, Stage, calls_law, chosen_law,
+    moments_give_law, moments_law, moves_law, notes_law, pushed_law, test_all, tests_law,
 };
 use machine_model::leaner_states_law;
 use prog_data::{Ending, Place};

@@ -7,8 +7,7 @@ pub add_point-requires-clause-placed : goal.add_point-requires-clause-placed
 add_point-requires-clause-placed c =
     let pred = c.args.exit.pred in
     let key = c.first_key-key.result in
-    let count = c.count_selected-count.result in
-    (
+    let count = c.count_selected-count.result in (
       c.requires.placed,
       subst (λ keys. count ≤ length (selected_at keys pred key)) c.requires.kept.indexed (omega (arith, c.count_selected-count.ensures)),
       c.requires.rest,
