@@ -9,8 +9,8 @@ use Rattle.engine_moves.specs.Failures.{IsBackAt}
 use Rattle.engine_moves.proofs.FailureLaws.{resumed, is_selected, is_to_try, clause_tried, mark_tested}
 use Rattle.engine_moves.proofs.failing.take_up.Goals as goal
 
-pub selected-requires : goal.selected-requires
-selected-requires c = let e = c.args.engine.now in is_selected e c.in-Retries.key c.in-Retries.next _ c.in-Retries.pending (subst (IsBackAt e) c.in-Retries.is c.requires.back)
+pub selected-number-requires : goal.selected-number-requires
+selected-number-requires c = let e = c.args.engine.now in is_selected e c.in-Retries.key c.in-Retries.next _ c.in-Retries.pending (subst (IsBackAt e) c.in-Retries.is c.requires.back)
 
 pub try_clause-requires : goal.try_clause-requires
 try_clause-requires c =
