@@ -1,11 +1,12 @@
 -- What the tables of a grammar hold.
 -- The headline does not rest on this file.
-use Rattle.std.specs.Prelude.{◌≡◌, ℕ, Bool, List}
+use Rattle.std.specs.Prelude.{◌≡◌, ℕ, ◌<◌, Bool, ◌&&◌, not, List, [], length, slice_index_or}
 use Rattle.std.specs.List.{list_any}
 use Rattle.prog_data.specs.declared.grammars.Rule.{Rule}
 use Rattle.prog_data.specs.declared.grammars.Grammar.{Grammar}
 use Rattle.prog_data.specs.GrammarRange.{IsGrammar}
-use Rattle.name_order.specs.Relations.{has_member, below, meets, full_leaves, looked_up}
+use Rattle.prog_data.specs.Values.{bit_at}
+use Rattle.name_order.specs.Relations.{are_names, has_member, below, meets, full_leaves, looked_up}
 use Rattle.name_order.specs.Tables.{Grid, has, lacks}
 
 -- a test that a leaf of one list passes is passed by one of the other
@@ -19,3 +20,19 @@ pub record TablesHold (g : Grammar) (leaves : List (List Rule)) (members outside
   pub has_members : (n : ℕ) → has members (n, n) ≡ has_member g n
   pub are_below : (n m : ℕ) → lacks outside (n, m) ≡ below g n m
   pub are_meeting : (n m : ℕ) → has meeting (n, m) ≡ meets g n m
+
+-- for each name the set of those that a table lacks beside it
+abbrev pub RowsLack : Grid → List (List ℕ) → Type 0
+RowsLack t rows = (n : ℕ) → n < t.size → bit_at (slice_index_or rows n []) ≡ (λ m. lacks t (n, m))
+
+-- the tables, for each name the names that it is below, and for each name those that do not meet it
+pub record RelationsHold (g : Grammar) (leaves : List (List Rule)) (members outside meeting : Grid) (aboves aparts : List (List ℕ)) : Type 0 where
+  pub tables : TablesHold g leaves members outside meeting
+  pub above_size : outside.size ≡ length g.rules
+  pub above : RowsLack outside aboves
+  pub apart_size : meeting.size ≡ length g.rules
+  pub apart : RowsLack meeting aparts
+
+-- whether two names of a grammar do not meet
+abbrev pub apart : Grammar → ℕ → ℕ → Bool
+apart g n m = are_names (length g.rules) (n, m) && not (meets g n m)
