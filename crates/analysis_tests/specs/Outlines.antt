@@ -1,4 +1,5 @@
 -- What a test's own functions promise of the programs that they make.
+-- The headline does not rest on this file.
 use Rattle.std.specs.Prelude.{◌≡◌, [], take}
 use Rattle.term_core.specs.Standard.{standard}
 use Rattle.prog_data.specs.declared.programs.Program.{Program}

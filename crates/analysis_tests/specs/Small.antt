@@ -1,4 +1,5 @@
 -- Small programs over the basic names, and tables of them.
+-- The headline does not rest on this file.
 use Rattle.std.specs.Prelude.{◌≡◌, ℕ, true, List, [], ◌∷◌}
 use Rattle.term_core.specs.declared.terms.Term as term
 use Rattle.term_core.specs.Names.{fixed_names}

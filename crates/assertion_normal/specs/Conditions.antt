@@ -1,6 +1,5 @@
 -- The conditions, claims and entries that the assertions of a predicate give.
 -- (Puebla, Bueno, Hermenegildo 2000: a `pred` assertion is a calls condition and success conditions. That the preconditions of `pred` and `calls` are one disjunction is this project's own.)
--- The headline does not rest on this file.
 use Rattle.std.specs.Prelude.{ℕ, zero, suc, ◌+◌, Bool, true, false, List, [], ◌∷◌, ◌++◌, map, filter, length, Option, Some, None}
 use Rattle.prog_data.specs.declared.conditions.Prop.{Prop}
 use Rattle.prog_data.specs.declared.conditions.CompProp.{CompProp}

@@ -1,5 +1,4 @@
 -- What `normalise` gives, or why it gives nothing.
--- The headline does not rest on this file.
 use Rattle.std.specs.Prelude.{◌≡◌, ℕ, List, Option, Some, None, option_map}
 use Rattle.prog_data.specs.declared.grammars.Grammar.{Grammar}
 use Rattle.prog_data.specs.declared.grammars.Seen.{Seen}

@@ -1,5 +1,4 @@
 -- What the properties of an assertion ask, by the types that are seen where it stands.
--- The headline does not rest on this file.
 use Rattle.std.specs.Prelude.{ℕ, ◌==◌, nat_le, Bool, false, ◌&&◌, List, if◌then◌else◌, bytes_eq, codes, Option, Some, None, option_map}
 use Rattle.std.specs.Option.{option_map_or}
 use Rattle.term_core.specs.declared.fixed.TheConstants.{VAR, NONVAR, GROUND}

@@ -1,5 +1,4 @@
 -- The assertions of a predicate with their properties looked up, one after the other; the grammar grows by the lists that they need.
--- The headline does not rest on this file.
 use Rattle.std.specs.Prelude.{◌≡◌, ℕ, Bool, true, false, List, [], ◌∷◌, ◌++◌, filter, Option, Some, None, option_map, option_and_then}
 use Rattle.prog_data.specs.declared.conditions.Prop.{Prop}
 use Rattle.prog_data.specs.declared.conditions.CompProp.{CompProp}

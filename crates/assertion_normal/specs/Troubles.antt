@@ -1,5 +1,4 @@
 -- What is wrong with the names of properties, and which trouble comes first.
--- The headline does not rest on this file.
 use Rattle.std.specs.Prelude.{ℕ, ◌==◌, nat_lt, Bool, ◌&&◌, ◌||◌, List, [], ◌∷◌, ◌++◌, map, if◌then◌else◌, Option, Some, None, option_map}
 use Rattle.std.specs.Option.{option_map_or}
 use Rattle.prog_data.specs.declared.grammars.Seen.{Seen}

@@ -1,5 +1,4 @@
 -- The predicate that an assertion is about.
--- The headline does not rest on this file.
 use Rattle.std.specs.Prelude.{ℕ, ◌==◌, Bool, true, false, ◌&&◌, ◌||◌, not, List, [], ◌∷◌, length, if◌then◌else◌, Option, Some, None, position, pos}
 use Rattle.term_core.specs.declared.fixed.TheConstants.{HASH, IMPLIES, COLON, PLUS, SLASH}
 use Rattle.std.specs.List.{list_any}

@@ -1,5 +1,4 @@
 -- The parts of a sentence that is an assertion, as its reader splits them off.
--- The headline does not rest on this file.
 use Rattle.std.specs.Prelude.{ℕ, [], ◌∷◌, Option, Some, None, option_map}
 use Rattle.term_core.specs.declared.terms.Term.{Term, out-Term}
 use Rattle.term_core.specs.declared.terms.Term.TheOpen.{Term-F, Node}

@@ -1,5 +1,4 @@
 -- What the fields of an assertion say.
--- The headline does not rest on this file.
 use Rattle.std.specs.Prelude.{ℕ, suc, ◌==◌, List, [], ◌∷◌, length, if◌then◌else◌, Option, Some, None, option_map, option_and_then}
 use Rattle.term_core.specs.declared.terms.Term.{Term, out-Term}
 use Rattle.term_core.specs.declared.terms.Term.TheOpen.{Term-F, Atom, Node}

@@ -1,5 +1,4 @@
 -- The assertion that a sentence is, computed.
--- The headline does not rest on this file.
 use Rattle.std.specs.Prelude.{ℕ, Bool, true, false, List, [], if◌then◌else◌, Option, Some, None, option_map}
 use Rattle.term_core.specs.declared.terms.Term.{Term, out-Term}
 use Rattle.term_core.specs.declared.fixed.TheConstants.{NECK}

@@ -1,5 +1,4 @@
 -- The keywords and statuses of assertions, and the fields that a keyword may have.
--- The headline does not rest on this file.
 use Rattle.std.specs.Prelude.{ℕ, ◌==◌, Bool, true, ◌&&◌, not, if◌then◌else◌, Option, Some, None}
 use Rattle.term_core.specs.declared.fixed.TheConstants.{CALLS, CHECK, CHECKED, COMP, ENTRY, FALSE, PRED, SUCCESS, TRUE, TRUST}
 use Rattle.assertion_read.specs.declared.assertions.Word.{Word}

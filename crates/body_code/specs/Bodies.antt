@@ -1,5 +1,4 @@
 -- Bodies of clauses: what is wrong with one, and the goal that it is.
--- The headline does not rest on this file.
 use Rattle.std.specs.Prelude.{ℕ, ◌==◌, List, [], ◌∷◌, map, length, Option, Some, None, option_map, if◌then◌else◌}
 use Rattle.term_core.specs.declared.fixed.TheConstants.{ARROW}
 use Rattle.term_core.specs.declared.terms.Term.{Term, out-Term}

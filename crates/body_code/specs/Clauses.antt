@@ -1,5 +1,4 @@
 -- The clause that a sentence is, or why it is none.
--- The headline does not rest on this file.
 use Rattle.std.specs.Prelude.{◌≡◌, ℕ, Bool, not, ◌&&◌, ◌==◌, ◌||◌, length, Option, Some, None, if◌then◌else◌}
 use Rattle.term_core.specs.declared.fixed.TheConstants.{NECK, GRAMMAR_ARROW, QUERY, DEFINES}
 use Rattle.term_core.specs.declared.terms.Term.{Term, out-Term}

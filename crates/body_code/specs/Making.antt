@@ -1,5 +1,4 @@
 -- What is made in a grammar, which grows by the lists that are needed.
--- The headline does not rest on this file.
 use Rattle.std.specs.Prelude.{◌≡◌, Option, Some, None, Ok, Err}
 use Rattle.std.specs.declared.result.Result.{Result}
 use Rattle.prog_data.specs.declared.grammars.Grammar.{Grammar}

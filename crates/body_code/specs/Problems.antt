@@ -1,5 +1,4 @@
 -- What may be wrong with a goal, and which of several problems is told.
--- The headline does not rest on this file.
 use Rattle.std.specs.Prelude.{ℕ, nat_lt, List, [], ◌∷◌, Option, Some, None, if◌then◌else◌}
 use Rattle.regtype_grammar.specs.declared.meanings.Meaning.{Meaning}
 use Rattle.regtype_grammar.specs.declared.meanings.Meaning.TheVariants as type

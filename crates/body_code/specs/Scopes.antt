@@ -1,5 +1,4 @@
 -- What the names of goals mean in a file. What is seen there is given: its own predicates, and the imported ones that none of its own hides.
--- The headline does not rest on this file.
 use Rattle.std.specs.Prelude.{ℕ, Bool, ◌&&◌, ◌==◌, List, [], ◌∷◌, filter}
 use Rattle.body_code.specs.declared.scopes.Named.{Named}
 use Rattle.body_code.specs.declared.scopes.Visible.{Visible}

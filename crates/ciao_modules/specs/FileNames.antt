@@ -1,5 +1,4 @@
 -- The names of files.
--- The headline does not rest on this file.
 use Rattle.std.specs.Prelude.{ℕ, ◌-◌, ◌==◌, Bool, ◌&&◌, List, [], ◌∷◌, ◌++◌, length, take, drop, if◌then◌else◌, bytes_eq, codes}
 use Rattle.std.specs.Str.{byte}
 use Rattle.term_core.specs.Characters.{is_lower_word}

@@ -1,5 +1,4 @@
 -- From the sentences of a file to a unit.
--- The headline does not rest on this file.
 use Rattle.std.specs.Prelude.{ℕ, Bool, true, false, List, [], ◌∷◌, Option, Some, None}
 use Rattle.prog_data.specs.declared.programs.Place.{Place}
 use Rattle.prog_data.specs.declared.refusals.RefusalKind.TheVariants.{BadModule}

@@ -1,5 +1,4 @@
 -- The module directive at the start of a file.
--- The headline does not rest on this file.
 use Rattle.std.specs.Prelude.{ℕ, Bool, true, false, ◌==◌, List, [], ◌∷◌, Option, Some, None, option_map, if◌then◌else◌, bytes_eq, codes}
 use Rattle.term_core.specs.Names.{name_text}
 use Rattle.term_core.specs.declared.fixed.TheConstants.{NECK}

@@ -1,5 +1,4 @@
 -- The libraries and their texts.
--- The headline does not rest on this file.
 use Rattle.std.specs.Prelude.{List, [], ◌∷◌, ◌++◌, Option, Some, None, if◌then◌else◌, bytes_eq, codes}
 use Rattle.std.specs.Str.{byte}
 use Rattle.ciao_modules.specs.declared.libraries.Library.{Library}

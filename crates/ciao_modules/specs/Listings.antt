@@ -1,5 +1,4 @@
 -- F/N, and lists of them, as terms.
--- The headline does not rest on this file.
 use Rattle.std.specs.Prelude.{ℕ, ◌==◌, List, [], ◌∷◌, Option, Some, None, if◌then◌else◌, option_map, pos, ℤ}
 use Rattle.std.specs.Option.{option_or}
 use Rattle.term_core.specs.declared.fixed.TheConstants.{NIL, CELL, SLASH}

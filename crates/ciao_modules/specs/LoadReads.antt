@@ -1,5 +1,4 @@
 -- The reads that a load makes, and what its answers say by them.
--- The headline does not rest on this file.
 use Rattle.std.specs.Prelude.{⊤, ◌≡◌, ◌≤◌, ℕ, suc, ◌+◌, List, [], ◌∷◌, ◌++◌, map, flat_map, length, take, drop, Option, Result, Ok, Err, IfSome, bytes_eq}
 use Rattle.std.specs.List.{AllByRecursion, IsDistinct}
 use Rattle.byte_io.specs.Outside.{Held, FileRead, Agrees}

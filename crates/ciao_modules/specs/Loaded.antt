@@ -1,5 +1,4 @@
 -- Loaded: the units that are reached from a main file, or why they are not.
--- The headline does not rest on this file.
 use Rattle.std.specs.Prelude.{◌≡◌, ◌<◌, ◌≤◌, ℕ, suc, List, [], ◌∷◌, ◌++◌, length, slice_get, Option, Some, None}
 use Rattle.byte_io.specs.Outside.{Held}
 use Rattle.term_core.specs.Names.{name_text, with_text, place_of}

@@ -1,5 +1,4 @@
 -- The queue of files: each is read once, in the order in which it was first named.
--- The headline does not rest on this file.
 use Rattle.std.specs.Prelude.{ℕ, Bool, true, false, ◌&&◌, ◌==◌, nat_le, List, [], ◌∷◌, ◌++◌, length, filter, Option, Some, None, if◌then◌else◌}
 use Rattle.std.specs.List.{list_any, position_or_len}
 use Rattle.prog_data.specs.declared.programs.Place.{Place}

@@ -1,5 +1,5 @@
 -- Units in range of the names after a load, and the file of a refusal among them.
--- The headline does not rest on this file.
+-- The headline rests on one word of this file, `exports_of`.
 use Rattle.std.specs.Prelude.{⊤, ◌<◌, ◌≤◌, ℕ, List, length, IfSome}
 use Rattle.std.specs.List.{AllByRecursion}
 use Rattle.ciao_reader.specs.Ranges.{IsSentenceInRange}

@@ -1,5 +1,4 @@
 -- A grammar rule `Head --> Body` as a clause. A body is translated between two variables: what is to be read, and what is left behind it.
--- The headline does not rest on this file.
 use Rattle.std.specs.Prelude.{ℕ, Bool, ◌==◌, ◌||◌, nat_le, List, [], ◌∷◌, ◌++◌, map, length, Option, Some, None, option_map, if◌then◌else◌}
 use Rattle.term_core.specs.Shapes.{greatest_arity, is_pair, pair_of}
 use Rattle.term_core.specs.declared.fixed.TheConstants.{NIL, CELL, BRACES, COMMA, BAR, CUT, SEMICOLON, NECK, GRAMMAR_ARROW, ARROW, NEGATION, EQUALS}

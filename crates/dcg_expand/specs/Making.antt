@@ -1,5 +1,4 @@
 -- What is made with new variables, which are numbered one after the other.
--- The headline does not rest on this file.
 use Rattle.std.specs.Prelude.{◌≡◌, ℕ, ◌+◌, Option, Some, None, Ok, Err}
 use Rattle.std.specs.declared.result.Result.{Result}
 use Rattle.dcg_expand.specs.declared.faults.ExpandFault.{ExpandFault}

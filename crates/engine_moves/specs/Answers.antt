@@ -1,4 +1,5 @@
 -- Variables that are numbered.
+-- The headline does not rest on this file.
 use Rattle.std.specs.Prelude.{◌+◌, ℕ, List, nat_eq}
 use Rattle.std.specs.List.{position_or_len}
 use Rattle.term_core.specs.declared.terms.Term.{Term}

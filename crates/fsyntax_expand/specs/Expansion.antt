@@ -1,5 +1,4 @@
 -- Clauses with definitions `L := E` and calls `~G` as clauses without them.
--- The headline does not rest on this file.
 use Rattle.std.specs.Prelude.{◌≡◌, Ok, Err, ℕ, ◌==◌, Bool, false, not, ◌&&◌, ◌||◌, map, List, [], ◌∷◌, ◌++◌, Option, Some, None, option_and_then, if◌then◌else◌}
 use Rattle.std.specs.declared.result.Result.{Result}
 use Rattle.term_core.specs.Shapes.{pair_of}

@@ -1,5 +1,4 @@
 -- Calls `~G` in a term become variables, and goals that are called before.
--- The headline does not rest on this file.
 use Rattle.std.specs.Prelude.{◌≡◌, ℕ, ◌==◌, List, [], ◌∷◌, ◌++◌, Option, Some, None, Ok, Err, if◌then◌else◌}
 use Rattle.std.specs.declared.result.Result.{Result}
 use Rattle.term_core.specs.declared.fixed.TheConstants.{TILDE}

@@ -1,5 +1,5 @@
 -- Which programs are in range, and which are as the linker makes them.
--- The headline does not rest on this file.
+-- The headline rests on one word of this file, `with_names`.
 use Rattle.std.specs.Prelude.{◌≡◌, ◌<◌, ◌≤◌, ℕ, ◌==◌, nat_lt, nat_eq, Bool, true, false, ◌&&◌, not, List, [], ◌∷◌, map, filter, flat_map, length, drop, slice_get, Some}
 use Rattle.std.specs.List.{list_any, list_all, AllByRecursion}
 use Rattle.term_core.specs.Shapes.{greatest_arity}

@@ -1,5 +1,4 @@
 -- Predicates with their clauses and assertions.
--- The headline does not rest on this file.
 use Rattle.std.specs.Prelude.{ℕ, suc, List, [], ◌∷◌, ◌++◌, map}
 use Rattle.body_code.specs.declared.faults.Indicator.{Indicator}
 use Rattle.unit_scopes.specs.Sayings.{File}

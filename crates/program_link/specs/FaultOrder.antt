@@ -1,5 +1,4 @@
 -- The fault that comes first.
--- The headline does not rest on this file.
 use Rattle.std.specs.Prelude.{ℕ, Bool, ◌&&◌, ◌||◌, ◌==◌, nat_lt, List, [], ◌∷◌, Option, Some, None, if◌then◌else◌}
 use Rattle.prog_data.specs.declared.refusals.RefusalKind.{RefusalKind}
 use Rattle.prog_data.specs.declared.refusals.RefusalKind.TheVariants as kind

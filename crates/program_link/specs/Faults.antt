@@ -1,5 +1,4 @@
 -- What is wrong with units.
--- The headline does not rest on this file.
 use Rattle.std.specs.Prelude.{ℕ, suc, not, List, [], ◌∷◌, ◌++◌, map, flat_map, Option, Some, None}
 use Rattle.ciao_reader.specs.declared.sentences.Sentence.{Sentence}
 use Rattle.prog_data.specs.declared.refusals.RefusalKind.{RefusalKind}

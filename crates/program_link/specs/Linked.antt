@@ -1,5 +1,4 @@
 -- Linked: the program of units, or the refusal that comes first.
--- The headline does not rest on this file.
 use Rattle.std.specs.Prelude.{⊤, ◌≡◌, ℕ, List, map, slice_get, Option, Some, None}
 use Rattle.std.specs.Option.{option_map_or}
 use Rattle.prog_data.specs.declared.programs.Program.{Program}

@@ -1,5 +1,4 @@
 -- What is wrong with sentences by themselves, with exports and with imports.
--- The headline does not rest on this file.
 use Rattle.std.specs.Prelude.{ℕ, Bool, false, not, ◌&&◌, ◌||◌, ◌==◌, nat_le, List, [], ◌∷◌, flat_map, slice_get, Option, Some, None, if◌then◌else◌, bytes_eq}
 use Rattle.std.specs.Option.{option_map_or}
 use Rattle.term_core.specs.Names.{name_text}

@@ -1,5 +1,4 @@
 -- The program of files that have no fault.
--- The headline does not rest on this file.
 use Rattle.std.specs.Prelude.{ℕ, zero, suc, ◌+◌, Bool, ◌==◌, ◌&&◌, false, List, [], ◌∷◌, ◌++◌, map, filter, flat_map, length, slice_get, is_some, Option, Some, None, option_map, option_and_then, if◌then◌else◌}
 use Rattle.std.specs.Option.{option_map_or}
 use Rattle.term_core.specs.Standard.{standard}

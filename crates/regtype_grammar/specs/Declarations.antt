@@ -1,5 +1,4 @@
 -- The directives that declare regular types.
--- The headline does not rest on this file.
 use Rattle.std.specs.Prelude.{◌≡◌, ◌↔◌, ℕ, ◌==◌, [], ◌∷◌, if◌then◌else◌, Option, Some, None, pos}
 use Rattle.std.specs.Ordering.{int_eq}
 use Rattle.term_core.specs.declared.fixed.TheConstants.{NECK, REGTYPE, HASH, SLASH}

@@ -1,5 +1,4 @@
 -- The grammar of the types of modules.
--- The headline does not rest on this file.
 use Rattle.std.specs.Prelude.{◌≡◌, ◌≤◌, ◌<◌, ℕ, ◌+◌, ◌-◌, ◌==◌, nat_le, List, [], ◌∷◌, ◌++◌, map, length, if◌then◌else◌, Option, Some, None}
 use Rattle.term_core.specs.declared.terms.Term.{Term}
 use Rattle.ciao_reader.specs.declared.sentences.Sentence.{Sentence}

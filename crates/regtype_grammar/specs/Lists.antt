@@ -1,5 +1,4 @@
 -- The lists of an element in a grammar.
--- The headline does not rest on this file.
 use Rattle.std.specs.Prelude.{◌≡◌, ◌<◌, ℕ, suc, ◌==◌, nat_lt, Bool, false, ◌&&◌, List, [], ◌∷◌, ◌++◌, length, if◌then◌else◌, Option, Some, None}
 use Rattle.prog_data.specs.declared.grammars.Rule.{Rule}
 use Rattle.prog_data.specs.declared.grammars.Rule.TheVariants.{Atom, Node}

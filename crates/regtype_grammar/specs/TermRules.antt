@@ -1,5 +1,4 @@
 -- The rules of a term: a name for each part of it that is no variable.
--- The headline does not rest on this file.
 use Rattle.std.specs.Prelude.{ℕ, zero, suc, ◌+◌, List, [], ◌∷◌, ◌++◌}
 use Rattle.term_core.specs.declared.terms.Term.{Term}
 use Rattle.term_core.specs.declared.terms.Term.TheOpen as layer

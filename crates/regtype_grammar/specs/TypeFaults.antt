@@ -1,5 +1,4 @@
 -- Why types have no grammar: the least fault.
--- The headline does not rest on this file.
 use Rattle.std.specs.Prelude.{ℕ, suc, ◌==◌, nat_lt, Bool, true, false, ◌&&◌, ◌||◌, List, [], ◌∷◌, ◌++◌, map, if◌then◌else◌, Option, Some, None}
 use Rattle.std.specs.List.{list_any}
 use Rattle.ciao_reader.specs.declared.sentences.Sentence.{Sentence}

@@ -1,5 +1,4 @@
 -- Which grammar name a name stands for in a module. What a module sees is given: its own types, and the imported ones that none of its own hides, each once; two of one name are ambiguous.
--- The headline does not rest on this file.
 use Rattle.std.specs.Prelude.{◌<◌, ◌≤◌, ℕ, ◌+◌, ◌-◌, ◌==◌, nat_le, Bool, false, ◌&&◌, List, [], ◌∷◌, map, filter, length, slice_get, slice_index_or, if◌then◌else◌, Option, Some, None}
 use Rattle.std.specs.List.{list_all, AllByRecursion}
 use Rattle.regtype_grammar.specs.declared.modules.RegType.{RegType}

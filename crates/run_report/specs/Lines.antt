@@ -1,5 +1,4 @@
 -- Lines, and what stands in several of them.
--- The headline does not rest on this file.
 use Rattle.std.specs.Prelude.{ℕ, true, List, [], ◌∷◌, ◌++◌, codes, decimal}
 use Rattle.std.specs.Str.{byte}
 use Rattle.term_core.specs.Names.{name_text}

@@ -1,5 +1,4 @@
 -- The lines of faults and refusals.
--- The headline does not rest on this file.
 use Rattle.std.specs.Prelude.{ℕ, List, ◌∷◌, ◌++◌, codes}
 use Rattle.std.specs.Str.{byte}
 use Rattle.prog_data.specs.declared.refusals.Refusal.{Refusal}

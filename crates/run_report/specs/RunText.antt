@@ -1,5 +1,4 @@
 -- The text and the status of a run, from its events and its ending.
--- The headline does not rest on this file.
 use Rattle.std.specs.Prelude.{ℕ, List, [], ◌∷◌, ◌++◌, flat_map, slice_get, Option, None, Some, codes}
 use Rattle.std.specs.Str.{byte}
 use Rattle.term_core.specs.declared.terms.Term.{Term}

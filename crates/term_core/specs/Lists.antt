@@ -1,5 +1,5 @@
 -- The beginnings of lists.
--- The headline does not rest on this file.
+-- The headline rests on one word of this file, `IsPrefix`.
 use Rattle.std.specs.Prelude.{◌≡◌, ℕ, List, ◌++◌, take}
 
 -- the first list begins the second: each item keeps its place

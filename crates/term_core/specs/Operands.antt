@@ -1,5 +1,4 @@
 -- The terms that an operator joins, and what each of some terms says.
--- The headline does not rest on this file.
 use Rattle.std.specs.Prelude.{ℕ, ◌==◌, List, [], ◌∷◌, ◌++◌, map, if◌then◌else◌, Option, Some, None}
 use Rattle.term_core.specs.declared.fixed.TheConstants.{COMMA}
 use Rattle.term_core.specs.declared.terms.Term.{Term, out-Term}

@@ -1,5 +1,4 @@
 -- Predicates by name and number of arguments (ISO/IEC 13211-1, predicate indicators).
--- The headline does not rest on this file.
 use Rattle.std.specs.Prelude.{ℕ, Bool, ◌&&◌, ◌==◌, List, [], ◌∷◌, ◌++◌, if◌then◌else◌}
 use Rattle.std.specs.List.{list_any, position_or_len}
 use Rattle.body_code.specs.declared.faults.Indicator.{Indicator}

@@ -1,5 +1,4 @@
 -- The predicates of files: those of each file in the order of their first clauses, file by file in load order, numbered from 0 on.
--- The headline does not rest on this file.
 use Rattle.std.specs.Prelude.{ℕ, zero, suc, ◌+◌, Bool, false, List, [], ◌∷◌, ◌++◌, map, filter, length, Option, Some, None}
 use Rattle.std.specs.Option.{option_map_or}
 use Rattle.ciao_reader.specs.declared.sentences.Sentence.{Sentence}

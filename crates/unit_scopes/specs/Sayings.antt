@@ -1,5 +1,4 @@
 -- What the sentences of a unit say.
--- The headline does not rest on this file.
 use Rattle.std.specs.Prelude.{ℕ, ◌==◌, Bool, ◌&&◌, List, [], ◌∷◌, ◌++◌, Option, Some, None, is_some, option_and_then, if◌then◌else◌}
 use Rattle.std.specs.List.{list_all}
 use Rattle.term_core.specs.Shapes.{is_pair, single_of}

@@ -1,5 +1,4 @@
 -- What the predicates of a file have in common.
--- The headline does not rest on this file.
 use Rattle.std.specs.Prelude.{ℕ, suc, List, [], ◌∷◌}
 use Rattle.unit_scopes.specs.Sayings.{File}
 use Rattle.unit_scopes.specs.Imports.{scope_of}
