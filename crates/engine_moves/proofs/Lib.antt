@@ -3,6 +3,7 @@ mod BuiltinTurns
 mod BuiltinWork
 mod CallLaws
 pub mod ClauseRanges
+mod CopyLaws
 mod EnterLaws
 mod ExitLaws
 mod FailureLaws

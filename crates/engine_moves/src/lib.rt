@@ -9,6 +9,7 @@ mod failing;
 mod links;
 mod looking;
 mod noting;
+mod numbering;
 mod readings;
 mod relied;
 mod tries;

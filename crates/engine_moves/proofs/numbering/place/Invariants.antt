@@ -1,6 +1,6 @@
 use Rattle.std.proofs.Common.{◌≡◌, ◌+◌, drop, nat_eq}
 use Rattle.std.specs.List.{position_or_len}
-use Rattle.engine_moves.proofs.builtins.writing.place_of.Given as goal
+use Rattle.engine_moves.proofs.numbering.place.Given as goal
 
 abbrev pub invariant-loop-other : goal.invariant-loop-other
 invariant-loop-other l = record {
