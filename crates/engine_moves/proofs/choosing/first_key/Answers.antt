@@ -1,4 +1,4 @@
-use Rattle.std.proofs.Common.{◌∙◌, arith}
+use Rattle.std.proofs.Common.{◌∙◌}
 use Rattle.engine_moves.proofs.ChoosingLaws.{no_first, first_says}
 use Rattle.engine_moves.proofs.choosing.first_key.Goals as goal
 
