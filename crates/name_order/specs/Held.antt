@@ -13,26 +13,20 @@ use Rattle.name_order.specs.Tables.{Grid, has, lacks}
 abbrev pub SameLeaves : List Rule → List Rule → Type 0
 SameLeaves xs ys = (test : Rule → Bool) → list_any test xs ≡ list_any test ys
 
--- the leaves that have members, and the tables of the names with members, of those that are not below, and of those that meet
-pub record TablesHold (g : Grammar) (leaves : List (List Rule)) (members outside meeting : Grid) : Type 0 where
+-- for each name the set of those that a table lacks beside it
+abbrev pub RowsLack : Grid → List (List ℕ) → Type 0
+RowsLack t rows = (n : ℕ) → n < t.size → bit_at (slice_index_or rows n []) ≡ (λ m. lacks t (n, m))
+
+-- whether two names of a grammar do not meet
+abbrev pub apart : Grammar → ℕ → ℕ → Bool
+apart g n m = are_names (length g.rules) (n, m) && not (meets g n m)
+
+-- the leaves that have members, the tables of the names with members, of those that are not below, and of those that meet, and for each name the sets of those that it is below, and of those that it does not meet
+pub record TablesHold (g : Grammar) (leaves : List (List Rule)) (members outside meeting : Grid) (above_rows apart_rows : List (List ℕ)) : Type 0 where
   pub range : IsGrammar g
   pub same_leaves : (n : ℕ) → SameLeaves (looked_up leaves n) (full_leaves g n)
   pub has_members : (n : ℕ) → has members (n, n) ≡ has_member g n
   pub are_below : (n m : ℕ) → lacks outside (n, m) ≡ below g n m
   pub are_meeting : (n m : ℕ) → has meeting (n, m) ≡ meets g n m
-
--- for each name the set of those that a table lacks beside it
-abbrev pub RowsLack : Grid → List (List ℕ) → Type 0
-RowsLack t rows = (n : ℕ) → n < t.size → bit_at (slice_index_or rows n []) ≡ (λ m. lacks t (n, m))
-
--- the tables, for each name the names that it is below, and for each name those that do not meet it
-pub record RelationsHold (g : Grammar) (leaves : List (List Rule)) (members outside meeting : Grid) (aboves aparts : List (List ℕ)) : Type 0 where
-  pub tables : TablesHold g leaves members outside meeting
-  pub above_size : outside.size ≡ length g.rules
-  pub above : RowsLack outside aboves
-  pub apart_size : meeting.size ≡ length g.rules
-  pub apart : RowsLack meeting aparts
-
--- whether two names of a grammar do not meet
-abbrev pub apart : Grammar → ℕ → ℕ → Bool
-apart g n m = are_names (length g.rules) (n, m) && not (meets g n m)
+  pub aboves : (n : ℕ) → n < length g.rules → bit_at (slice_index_or above_rows n []) ≡ below g n
+  pub aparts : (n : ℕ) → n < length g.rules → bit_at (slice_index_or apart_rows n []) ≡ apart g n

@@ -29,13 +29,13 @@ pub struct Relations {
 
 impl Model for Relations {
     ghost use Rattle.prog_data.specs.declared.grammars.Grammar.{Grammar};
-    ghost use Rattle.name_order.specs.Held.{RelationsHold};
+    ghost use Rattle.name_order.specs.Held.{TablesHold};
 
     ghost Value = { Grammar };
 
     ghost view = { λ r. r.grammar };
 
-    ghost invariant = { λ r. RelationsHold r.grammar r.leaves r.members r.outside r.meeting r.above r.apart };
+    ghost invariant = { λ r. TablesHold r.grammar r.leaves r.members r.outside r.meeting r.above r.apart };
 }
 
 impl Relations {

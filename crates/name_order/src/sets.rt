@@ -1,5 +1,5 @@
 // Sets of names as bits: the name n is in a set where bit n % 64 of word n / 64 is 1.
-ghost use Rattle.std.specs.Prelude.{◌≡◌, ◌≤◌, ◌<◌, ◌==◌, ◌&&◌, ◌||◌, [], slice_index_or, length, IfOk};
+ghost use Rattle.std.specs.Prelude.{◌≡◌, ◌<◌, ◌==◌, ◌&&◌, ◌||◌, [], slice_index_or, IfOk};
 ghost use Rattle.prog_data.specs.Values.{bit_at};
 ghost use Rattle.name_order.specs.Tables.{lacks};
 ghost use Rattle.name_order.specs.Held.{RowsLack};

@@ -5,7 +5,7 @@ ghost use Rattle.prog_data.specs.GrammarRange.{is_rule_of};
 ghost use Rattle.prog_data.specs.Values.{bit_at, seen};
 ghost use Rattle.name_order.specs.Relations.{order};
 ghost use Rattle.type_domain.specs.Values.{IsValue, names_of, is_set, build, leaf_part, join_all, name_part, meet_parts, project};
-ghost use Rattle.type_domain.specs.Parts.{united_where, said_parts};
+ghost use Rattle.type_domain.specs.Meeting.{united_where, said_parts};
 
 use crate::bits::has;
 use crate::laws::{given_law, relied_law};

@@ -2,7 +2,7 @@
 ghost use Rattle.std.specs.Prelude.{◌≡◌, ◌<◌, ◌↔◌, length, IsTrue};
 ghost use Rattle.prog_data.specs.Values.{bit_at, seen};
 ghost use Rattle.name_order.specs.Relations.{Order, order};
-ghost use Rattle.type_domain.specs.Parts.{fitting, united};
+ghost use Rattle.type_domain.specs.Meeting.{fitting, united};
 ghost use Rattle.type_domain.specs.Values.{IsValue, Leq, all_fit, unless_apart, join, meet, of_name, of_int, of_atom};
 
 use crate::bits::{holds_all, in_both, in_either};
