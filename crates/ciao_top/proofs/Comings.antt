@@ -127,3 +127,26 @@ comes_behind D E before mid after old middle new result le a (Whole text e grew)
 comes_behind D E before mid after old middle new result le a (SinkFailed is rose b) =
     SinkFailed is (rose_later before mid after le rose) (begun_behind D E old middle new a b)
 comes_behind D E before mid after old middle new result le a (MemoryWanted is b) = MemoryWanted is (begun_behind D E old middle new a b)
+
+-- lines
+
+-- a line and then others
+pub line_written : (line rest : Word) (status : ℕ) (old new : Output) → new ≡ with_piece old line → HasWritten (Only (line ++ rest) status) (Only rest status) old new
+line_written line rest status old new grew = record {
+  piece = line;
+  grew = grew;
+  forth = λ t s d. (ap (λ x. line ++ x) d.0, d.1);
+  back = λ t s d. (rest, d.0, (refl, d.1));
+}
+
+-- a prefix of a line before others
+pub line_begun : (line rest : Word) (status : ℕ) (old new : Output) → GrewByFront old new line → HasBegun (Only (line ++ rest) status) old new
+line_begun line rest status old new g = record {
+  piece = take g.0 line;
+  begins = λ t s d. subst (λ x. IsPrefix (take g.0 line) x) (sym d.0) (front_of_first g.0 line rest);
+  grew = g.1;
+}
+
+-- all lines
+pub lines_written : (text : Word) (status : ℕ) (before now : ℕ) (old new : Output) → before ≤ now → HasWritten (Only text status) (Only [] status) old new → Comes (Only text status) (Rose before now) old new status
+lines_written text status before now old new le a = comes_behind (Only text status) (Only [] status) before now now old new new status le a (Whole [] (refl, refl) (same_grown new))

@@ -1,0 +1,11 @@
+use Rattle.std.proofs.Common.{◌∙◌}
+use Rattle.ciao_top.proofs.SummaryLaws.{stands_alone}
+use Rattle.ciao_top.proofs.summaries.files_with.Goals as goal
+
+pub returns-in-Ok : goal.returns-in-Ok
+returns-in-Ok c = record {
+  held = stands_alone _ _ c.args.text.now c.new.ensures.held c.in-Ok.ensures.ok;
+  faults = c.add.ensures.faults ∙ c.new.ensures.faults;
+  failing = c.add.ensures.failing ∙ c.new.ensures.failing;
+  reads = c.add.ensures.reads ∙ c.new.ensures.reads;
+}
