@@ -1,9 +1,10 @@
 -- How answers come out.
-use Rattle.std.proofs.Common.{◌≡◌, ◌⊎◌, inl, inr, ℕ, Bool, ◌+◌, ◌≤◌, [], ◌++◌, take, length, min, refl, ◌∙◌, sym, ap, subst, Option, Some, None, arith, append-nil}
+use Rattle.std.proofs.Common.{◌≡◌, ◌⊎◌, inl, inr, ℕ, Bool, ◌+◌, ◌≤◌, List, [], ◌++◌, take, length, min, refl, ◌∙◌, sym, ap, subst, Option, Some, None, arith, append-nil}
 use Rattle.std.proofs.lemmas.List.{append_assoc, take_min, take-append-le}
 use Rattle.std.proofs.Math.Seq.{take-append-add}
 use Rattle.byte_io.specs.Outside.{Rose, grown}
 use Rattle.ciao_modules.specs.FileNames.{Word}
+use Rattle.ciao_top.specs.Lines.{joined}
 use Rattle.ciao_top.specs.Answers.{IsPrefix, Output, with_piece}
 use Rattle.ciao_top.specs.InnerAnswers.{DeviceGoesOn, GrewByFront, Only, HasBegun, Comes, Whole, SinkFailed, MemoryWanted, HasWritten}
 
@@ -150,3 +151,7 @@ line_begun line rest status old new g = record {
 -- all lines
 pub lines_written : (text : Word) (status : ℕ) (before now : ℕ) (old new : Output) → before ≤ now → HasWritten (Only text status) (Only [] status) old new → Comes (Only text status) (Rose before now) old new status
 lines_written text status before now old new le a = comes_behind (Only text status) (Only [] status) before now now old new new status le a (Whole [] (refl, refl) (same_grown new))
+
+-- the same lines
+pub only_as : (seen lines : List Word) (status : ℕ) (writing : Type 0) (old new : Output) (result : ℕ) → seen ≡ lines → Comes (Only (joined seen) status) writing old new result → Comes (Only (joined lines) status) writing old new result
+only_as seen lines status writing old new result same comes = subst (λ ls. Comes (Only (joined ls) status) writing old new result) same comes

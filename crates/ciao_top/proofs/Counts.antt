@@ -32,17 +32,18 @@ module _ (program : Program) (bound : ℕ) where
   event_counted : (o n : Option Left) (before after : Left) (event : Event) (made count now : ℕ) → o ≡ Some before → n ≡ Some after
       → Leads (every_condition program) program bound before (event ∷ []) made after
       → ((events : List Event) → count + answer_count (event ∷ events) ≡ now + answer_count events) → CountsOn program bound o n count now
-  event_counted o n before after event made count now was is tells counts rest ending x =
-      (answer_count (event ∷ x.events),
-      record {
-        now = before;
-        is_now = was;
-        events = event ∷ x.events;
-        tests = made + x.tests;
-        continues = tells.forth x.events x.tests ending (subst (λ l. Continues (every_condition program) program bound l x.events x.tests ending) (same_some x.now after n x.is_now is) x.continues);
-        answers_is = refl;
-      },
-      counts x.events ∙ ap (λ k. now + k) (sym x.answers_is))
+  event_counted o n before after event made count now was is tells counts rest ending x = (
+    answer_count (event ∷ x.events),
+    record {
+      now = before;
+      is_now = was;
+      events = event ∷ x.events;
+      tests = made + x.tests;
+      continues = tells.forth x.events x.tests ending (subst (λ l. Continues (every_condition program) program bound l x.events x.tests ending) (same_some x.now after n x.is_now is) x.continues);
+      answers_is = refl;
+    },
+    counts x.events ∙ ap (λ k. now + k) (sym x.answers_is),
+  )
 
   next_counted : (o n : Option Left) (event : Event) (count : ℕ) → IsNextAt program bound o event n → IsCounted program bound o n count (counting_behind event count)
   next_counted o n (Out text) count next = (

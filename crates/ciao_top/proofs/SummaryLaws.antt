@@ -8,7 +8,7 @@ use Rattle.term_core.specs.declared.terms.Term.{Term}
 use Rattle.prog_data.specs.declared.programs.Program.{Program}
 use Rattle.ciao_modules.specs.FileNames.{Word}
 use Rattle.ciao_modules.specs.LoadReads.{Agree}
-use Rattle.ciao_top.specs.WordsAccepted.{GenerateWords, RunQuery}
+use Rattle.ciao_top.specs.WordsAccepted.{GenerateWords, RunQuery, GenerateModule}
 use Rattle.ciao_top.specs.declared.prepare.Prepared.{Prepared}
 use Rattle.ciao_top.specs.declared.stops.Stop.{Stop}
 use Rattle.ciao_top.specs.declared.stops.Stop.TheVariants as stop
@@ -51,3 +51,9 @@ module _ (made : GenerateWords) (files : MemFiles) (hold : HoldGenerated made fi
     pub generated_err : (reading : Type 0) → (reading → ⊥) → (answer : Result Prepared Stop) → IfErr answer (Stops (RunQuery (generated_run made)) reads reading) → IfErr answer (SummaryStops made)
     generated_err reading never (Ok prepared) a = tt
     generated_err reading never (Err s) a = stops_so reading never s a
+
+-- why there is no summary is why the command is not carried out
+pub summary_stops : (made : GenerateWords) (reads : List FileRead) (reading : Type 0) (s : Stop) → SummaryStops made s → Stops (GenerateModule made) reads reading s
+summary_stops made reads reading (stop.Refused why) a = λ files agree. a
+summary_stops made reads reading (stop.Unreadable name) a = absurd a
+summary_stops made reads reading stop.NoMemory a = tt

@@ -1,6 +1,7 @@
 //! The top call: from words, files and a sink to a status.
 #![tactic(auto)]
 
+mod commands;
 mod prepare;
 mod queries;
 mod relied;

@@ -2,37 +2,17 @@
 ghost use Rattle.std.specs.Prelude.{◌≡◌, ◌≤◌, ◌++◌, map, string_bytes};
 ghost use Rattle.byte_io.specs.Outside.{Rose, StaysSteady};
 ghost use Rattle.ciao_modules.specs.LoadReads.{new_reads};
-ghost use Rattle.ciao_top.specs.Lines.{stop_text, stop_status};
 ghost use Rattle.ciao_top.specs.Answers.{Answered, Complete, OneAnswer, SomeAnswer, Completeness, output_of};
-ghost use Rattle.ciao_top.specs.InnerAnswers.{DeviceGoesOn, Comes, Only};
 
-use crate::prepare::prepare;
+use crate::commands::{check_file, generate, run_query, write_stop};
 use crate::relied::relied_law;
-use crate::reports::{report_file, write_lines};
-use crate::runs::{write_text, write_whole};
-use crate::stops::{Reason, Stop, stop_status, stop_text};
-use crate::summaries::summarise;
+use crate::stops::{Reason, Stop};
 use crate::words::{Command, read_words};
 use byte_io::{Files, Sink};
 use ciao_modules::some_load_law;
 use machine_model::ends_law;
 use std::alloc::Global;
 use std::thread::Threads;
-
-// Tells why there is nothing to run, and gives the status.
-fn write_stop<S: Sink>(alloc: Global, stop: &Stop, out: &mut S) -> u8
-    ensures comes { Comes (Only (stop_text stop.now) (stop_status stop.now)) (Rose (S.faults out.old) (S.faults out.new))
-        (output_of (S.written out.old) (S.taken out.old)) (output_of (S.written out.new) (S.taken out.new)) result }
-    ensures sink { DeviceGoesOn (S.steady out.old) (S.steady out.new) (S.faults out.old) (S.faults out.new) }
-{
-    match stop_text(alloc, stop) {
-        Err(_) => 9,
-        Ok(text) => match write_text(out, text.as_str()) {
-            Ok(()) => stop_status(stop),
-            Err(status) => status,
-        },
-    }
-}
 
 /// Runs the command that the words are, and gives the status.
 ///
@@ -67,18 +47,9 @@ pub fn run_tool<R: Threads + Sync, F: Files, S: Sink>(
     relied_law(); // for the proof
     match read_words(words) {
         None => write_stop(alloc, &Stop::Refused(Reason::NoCommand), out),
-        Some(Command::Run(run)) => match prepare(alloc, &run, files) {
-            Err(stop) => write_stop(alloc, &stop, out),
-            Ok(prepared) => write_whole(alloc, &prepared, run.steps, run.answers, out),
-        },
-        Some(Command::Check(file)) => match report_file(alloc, file, files) {
-            Err(stop) => write_stop(alloc, &stop, out),
-            Ok(report) => write_lines(report.lines.as_slice(), report.status, out),
-        },
-        Some(Command::Generate(made)) => match summarise(alloc, made) {
-            Err(stop) => write_stop(alloc, &stop, out),
-            Ok(summary) => write_lines(summary.lines.as_slice(), summary.status, out),
-        },
+        Some(Command::Run(run)) => run_query(alloc, &run, files, out),
+        Some(Command::Check(file)) => check_file(alloc, file, files, out),
+        Some(Command::Generate(made)) => generate(alloc, made, out),
     }
 }
 

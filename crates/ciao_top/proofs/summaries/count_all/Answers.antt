@@ -11,7 +11,7 @@ events-init c = record { so_far = none_counted _ _ _ 0; program = refl; bound = 
 pub events-preserved : goal.events-preserved
 events-preserved c =
     let same = subst (λ b. IsCounted (program_of c.args.run.now) b (left_of c.events.run) (left_of c.count_next.new.run) c.events.answers c.in_ok-count_next.counting) c.events.invariant.bound
-        (subst (λ p. IsCounted p (bound_of c.events.run) (left_of c.events.run) (left_of c.count_next.new.run) c.events.answers c.in_ok-count_next.counting) c.events.invariant.program c.in_ok-count_next.ensures.counted) in
+    (subst (λ p. IsCounted p (bound_of c.events.run) (left_of c.events.run) (left_of c.count_next.new.run) c.events.answers c.in_ok-count_next.counting) c.events.invariant.program c.in_ok-count_next.ensures.counted) in
     record {
       so_far = counted_on _ _ _ _ _ _ _ _ c.events.invariant.so_far c.in-GoesOn.ensures;
       program = c.count_next.ensures.program ∙ c.events.invariant.program;

@@ -1,1 +1,0 @@
-use Rattle.ciao_top.proofs.summaries.count_line.Goals as goal
