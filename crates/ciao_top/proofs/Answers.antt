@@ -67,10 +67,10 @@ module _ (relied : Relied) where
       let same = one_statuses relied.ordered program a.statuses b.statuses a.has b.has in
       let ran : (a.events ≡ b.events) × (a.ending ≡ b.ending) = runs_one program query made.steps a.events b.events a.ending b.ending a.runs b.runs in (
         a.text_is
-        ∙ ap (λ ss. joined (summary_lines made program ss (answer_count a.events) a.ending)) same
-        ∙ ap (λ es. joined (summary_lines made program b.statuses (answer_count es) a.ending)) ran.0
-        ∙ ap (λ e. joined (summary_lines made program b.statuses (answer_count b.events) e)) ran.1
-        ∙ sym b.text_is,
+            ∙ ap (λ ss. joined (summary_lines made program ss (answer_count a.events) a.ending)) same
+            ∙ ap (λ es. joined (summary_lines made program b.statuses (answer_count es) a.ending)) ran.0
+            ∙ ap (λ e. joined (summary_lines made program b.statuses (answer_count b.events) e)) ran.1
+            ∙ sym b.text_is,
         a.status_is ∙ ap ending_status ran.1 ∙ sym b.status_is,
       )
 
@@ -136,9 +136,10 @@ module _ (ends : (what : Tests) (program : Program) → Ends what program) (some
 
     -- has a query that meets an entry
     query_some : ⊥
-    query_some = program_some held run.file (λ line a. refused (reason.OfFiles line) (OfFiles line a)) (λ program ops has.
-    refused reason.QueryUnread (Unread program ops has (λ names query read.
-    called_some (with_names names program) query (record { before = program; ops = ops; has = has; names = names; read = read; program_is = refl }) (called_by (with_names names program) query) refl)))
+    query_some =
+        program_some held run.file (λ line a. refused (reason.OfFiles line) (OfFiles line a)) (λ program ops has.
+        refused reason.QueryUnread (Unread program ops has (λ names query read.
+        called_some (with_names names program) query (record { before = program; ops = ops; has = has; names = names; read = read; program_is = refl }) (called_by (with_names names program) query) refl)))
 
   module _ (some_least : SomeLeast) (in_range : InRange) where
     -- a command that is not refused answers
