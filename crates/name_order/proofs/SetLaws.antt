@@ -68,10 +68,10 @@ at_end (r ∷ rows) row = at_end rows row
 
 one_more : (rows : List (List ℕ)) (row : List ℕ) → length (rows ++ row ∷ []) ≡ length rows + 1
 one_more [] row = refl
-one_more (r ∷ rows) row = ap suc (one_more rows row)
+one_more (r ∷ rows) row = let shift : suc (length rows + 1) ≡ suc (length rows) + 1 = omega arith in ap suc (one_more rows row) ∙ shift
 
-pub no_rows : (t : Grid) → FirstRows t 0 []
-no_rows t = (refl, λ n lt. absurd (omega (arith, lt)))
+pub no_rows : (t : Grid) (rows : List (List ℕ)) → rows ≡ [] → FirstRows t 0 rows
+no_rows t rows e = (ap length e, λ n lt. absurd (omega (arith, lt)))
 
 pub row_turn : (t : Grid) (k : ℕ) (rows new : List (List ℕ)) (row : List ℕ) → FirstRows t k rows → bit_at row ≡ (λ m. lacks t (k, m)) → new ≡ rows ++ row ∷ [] → FirstRows t (k + 1) new
 row_turn t k rows new row had is e = (ap length e ∙ one_more rows row ∙ ap (λ n. n + 1) had.0, λ n lt. ap (λ xs. bit_at (slice_index_or xs n [])) e ∙ at n lt)
