@@ -9,5 +9,4 @@ parent(dora,emil).
 ancestor(X,Y) :- parent(X,Y).
 ancestor(X,Z) :- parent(X,Y), ancestor(Y,Z).
 
-% Everyone counts as a sibling of themselves here: there is no test of difference yet.
-siblings(X,Y) :- parent(P,X), parent(P,Y).
+siblings(X,Y) :- parent(P,X), parent(P,Y), X \== Y.

@@ -11,3 +11,5 @@ mod Fronts
 mod Rounds
 mod OneOutcome
 mod SomeOutcome
+mod RefusalNames
+mod OperatorLaws

@@ -186,6 +186,15 @@ module _ (one_source : (bytes : Word) → OneSource bytes) (no_fault : (bytes : 
       one_stop other m is s w {here = here} (next n after l also r rest) (next {units = us} k later i too t more) =
           one_stop other m is s w rest (same_rest here n k also too other us after later l i r t more)
 
+      -- the file is the same
+      one_place : (other : Progress) (m : Member) → comes_next other m → (s : Refusal) → refused_there other m s → {here : Progress} {units others : List Unit} → LoadsTo held folder there here units → LoadsTo held folder other here others → there ≡ other
+      one_place other m is s w {here = here} (none e) (none f) = sym e ∙ f
+      one_place other m is s w {here = here} (none e) (next n after l also r rest) = absurd (not_read here e n after l also r)
+      one_place other m is s w {here = here} (next n after l also r rest) (none f) =
+          absurd (file_refused here.names here.queue n after l s r (subst (λ x. refused_there here x s) (same_Some m n (sym (subst (λ p. comes_next p m) (sym f) is) ∙ also)) (subst (λ p. refused_there p m s) (sym f) w)))
+      one_place other m is s w {here = here} (next n after l also r rest) (next {units = us} k later i too t more) =
+          one_place other m is s w rest (same_rest here n k also too other us after later l i r t more)
+
   -- the load of a main file
 
   pub one_load : (held : Held) (main : Word) (before after later : List Word) (units others : List Unit) → Loaded held main before after units → Loaded held main before later others → (units ≡ others) × (after ≡ later)
@@ -200,3 +209,9 @@ module _ (one_source : (bytes : Word) → OneSource bytes) (no_fault : (bytes : 
   pub one_load_refusal : (held : Held) (main : Word) (before after later : List Word) (refusal other : Refusal) → LoadRefused held main before after refusal → LoadRefused held main before later other → refusal ≡ other
   one_load_refusal held main before after later refusal other r s =
       one_stop held (folder_of main) r.reached r.member r.comes.is_next refusal r.refuses s.reached s.member s.comes.is_next other s.refuses r.comes.loads s.comes.loads
+
+  -- it is refused at one file
+  pub one_refused_place : (held : Held) (main : Word) (before after later : List Word) (refusal other : Refusal) (r : LoadRefused held main before after refusal) (s : LoadRefused held main before later other) → (r.reached ≡ s.reached) × (r.member ≡ s.member)
+  one_refused_place held main before after later refusal other r s =
+      let same = one_place held (folder_of main) r.reached r.member r.comes.is_next refusal r.refuses s.reached s.member s.comes.is_next other s.refuses r.comes.loads s.comes.loads in
+      (same, same_Some r.member s.member (sym r.comes.is_next ∙ ap (λ p. slice_get p.queue p.at) same ∙ s.comes.is_next))

@@ -2,6 +2,9 @@
 -- The headline does not rest on this file.
 use Rattle.std.specs.Prelude.{◌≡◌, List}
 use Rattle.byte_io.specs.Outside.{Held}
+use Rattle.std.specs.List.{AllByRecursion}
+use Rattle.term_core.specs.Names.{name_text}
+use Rattle.term_core.specs.Standard.{IsMade}
 use Rattle.prog_data.specs.declared.refusals.Refusal.{Refusal}
 use Rattle.ciao_modules.specs.FileNames.{Word}
 use Rattle.ciao_modules.specs.Loaded.{Loaded, LoadRefused}
@@ -18,6 +21,15 @@ NoLoadRefused = (held : Held) (main : Word) (before after later : List Word) (un
 -- the first refusal is the same
 abbrev pub OneLoadRefusal : Type 0
 OneLoadRefusal = (held : Held) (main : Word) (before after later : List Word) (refusal other : Refusal) → LoadRefused held main before after refusal → LoadRefused held main before later other → refusal ≡ other
+
+-- its file has one text, by whatever names at last
+abbrev pub OneRefusalName : Type 0
+OneRefusalName = (held : Held) (main : Word) (before after later : List Word) (refusal other : Refusal) → LoadRefused held main before after refusal → LoadRefused held main before later other
+    → name_text after refusal.place.file ≡ name_text later other.place.file
+
+-- the operators of each unit are a table that changes of the standard one can make
+abbrev pub OperatorsAreMade : Type 0
+OperatorsAreMade = (held : Held) (main : Word) (before after : List Word) (units : List Unit) → Loaded held main before after units → AllByRecursion (λ u. IsMade u.ops) units
 
 -- there are units or a first refusal: it is not so that there is neither
 abbrev pub SomeLoad : Type 0

@@ -348,47 +348,79 @@ fn runs_with_assertions(rt: HostRuntime) -> Result<(), Fail> {
     Ok(())
 }
 
-// Sentences that are no assertion as it is built, with their fault.
-const OTHERS: [(&str, &str); 39] = [
-    (":- pred p(X).", "NotBuilt"),
-    (":- pred p(X) : small(X).", "NotBuilt"),
-    (":- pred p(X) : int(Y).", "NotBuilt"),
-    (":- pred p(X) : int(1).", "NotBuilt"),
-    (":- pred p(X) : int(f(X)).", "NotBuilt"),
-    (":- pred p(X,X) : int(X).", "NotBuilt"),
-    (":- pred p(1) : int(X).", "NotBuilt"),
-    (":- pred p(f(X)) : int(X).", "NotBuilt"),
-    (":- pred p(X) => int(X) : int(X).", "NotBuilt"),
+// Sentences that are no assertion, with their fault.
+const OTHERS: [(&str, &str); 31] = [
+    (":- pred p(X) : small(X).", "UnknownProperty"),
+    (":- pred p(X) : int(Y).", "BadAssertion"),
+    (":- pred p(X) : int(1).", "BadAssertion"),
+    (":- pred p(X) : int(f(X)).", "BadAssertion"),
+    (":- pred p(X,X) : int(X).", "BadAssertion"),
+    (":- pred p(1) : int(X).", "BadAssertion"),
+    (":- pred p(f(X)) : int(X).", "BadAssertion"),
+    (":- pred p(X) => int(X) : int(X).", "BadAssertion"),
     (":- pred p(X) : int(X) : atm(X).", "Syntax"),
     (":- pred p(X) => int(X) => atm(X).", "Syntax"),
-    (":- pred p(X) : int(X), atm(X).", "NotBuilt"),
+    (":- pred p(X) : int(X), atm(X).", "BadAssertion"),
     (":- pred p(X) : (int(X),).", "Syntax"),
     (":- pred p(X) : (int(X) atm(X)).", "Syntax"),
-    (":- pred p(X) : ((int(X), atm(X)), gnd(X)).", "NotBuilt"),
-    (":- pred p(X) : list(X,int).", "NotBuilt"),
-    (":- pred p(X) : int.", "NotBuilt"),
-    (":- pred p(X) : true.", "NotBuilt"),
-    (":- pred p(X) : X.", "NotBuilt"),
-    (":- pred p : int(X).", "NotBuilt"),
-    (":- pred int(X) : int(X).", "NotBuilt"),
-    (":- pred [X] : int(X).", "NotBuilt"),
-    (":- pred X:Y => int(X).", "NotBuilt"),
-    (":- pred (X # Y) : int(X).", "NotBuilt"),
-    (":- pred (X => Y) : int(X).", "NotBuilt"),
-    (":- pred (X : Y) : int(X).", "NotBuilt"),
-    (":- pred (X + Y) : int(X).", "NotBuilt"),
-    (":- pred X : int(X).", "NotBuilt"),
-    (":- calls p(X) : int(X).", "NotBuilt"),
-    (":- check pred p(X) : int(X).", "NotBuilt"),
-    (":- pred p(X) : int(X) + is_det.", "NotBuilt"),
-    (":- pred p(X) : int(X) # \"a comment\".", "NotBuilt"),
+    (":- pred p(X) : int.", "BadAssertion"),
+    (":- pred p(X) : X.", "BadAssertion"),
+    (":- pred p : int(X).", "BadAssertion"),
+    (":- pred int(X) : int(X).", "Undefined"),
+    (":- pred [X] : int(X).", "BadAssertion"),
+    (":- pred X:Y => int(X).", "BadAssertion"),
+    (":- pred (X # Y) : int(X).", "BadAssertion"),
+    (":- pred (X => Y) : int(X).", "BadAssertion"),
+    (":- pred (X : Y) : int(X).", "BadAssertion"),
+    (":- pred (X + Y) : int(X).", "BadAssertion"),
+    (":- pred X : int(X).", "BadAssertion"),
     (":- pred p(X) : int(X)", "NoEnd"),
-    (":- p(X).", "NotBuilt"),
+    (":- p(X).", "UnknownDirective"),
     (":- pred p(X) : int(X) :- p(X).", "Syntax"),
     (":- pred p(X) :- int(X).", "Syntax"),
     (":- pred p(X) : =>int(X).", "Syntax"),
     (":- pred p(X) = > int(X).", "Syntax"),
-    (":- pred p/1 : int(X).", "NotBuilt"),
+    (":- pred p/1 : int(X).", "BadAssertion"),
+];
+
+// Assertions, and what a call of `p(1)` gives.
+const READ: [(&str, &str, u8); 8] = [
+    (":- pred p(X).", "answer: p(1)\nend: no more answers\n", 0),
+    (
+        ":- pred p(X) : ((int(X), atm(X)), gnd(X)).",
+        "end: violated c.pl:4 calls p/1\n",
+        1,
+    ),
+    (
+        ":- pred p(X) : list(X,int).",
+        "end: violated c.pl:4 calls p/1\n",
+        1,
+    ),
+    (
+        ":- pred p(X) : true.",
+        "answer: p(1)\nend: no more answers\n",
+        0,
+    ),
+    (
+        ":- calls p(X) : int(X).",
+        "answer: p(1)\nend: no more answers\n",
+        0,
+    ),
+    (
+        ":- check pred p(X) : int(X).",
+        "answer: p(1)\nend: no more answers\n",
+        0,
+    ),
+    (
+        ":- pred p(X) : int(X) + is_det.",
+        "answer: p(1)\nend: no more answers\n",
+        0,
+    ),
+    (
+        ":- pred p(X) : int(X) # \"a comment\".",
+        "answer: p(1)\nend: no more answers\n",
+        0,
+    ),
 ];
 
 // A module with that sentence in line 4.
@@ -431,6 +463,27 @@ fn first_other_sentence<'a, R: Threads + Sync>(
         }
     }
     Ok(None)
+}
+
+// The first assertion with which a call of `p(1)` gives something else.
+fn first_read_otherwise<'a, R: Threads + Sync>(
+    rt: &R,
+    alloc: Global,
+    rows: &[(&'a str, &str, u8)],
+) -> Result<Option<&'a str>, AllocError> {
+    for row in rows {
+        let text = module_with(alloc, row.0)?;
+        if !runs_so(rt, alloc, text.as_bytes(), "p(1)", "5", row.1, row.2)? {
+            return Ok(Some(row.0));
+        }
+    }
+    Ok(None)
+}
+
+#[test]
+fn sentences_that_are_assertions(rt: HostRuntime) -> Result<(), Fail> {
+    assert_eq!(rt; first_read_otherwise(&rt, rt.alloc(), &READ)?, None);
+    Ok(())
 }
 
 #[test]

@@ -59,8 +59,8 @@ const CASES: [Case; 38] = [
         text: ":- module(c,[q/0]).\nq :- X = 1.\np(X,X).\n",
         query: "q",
         steps: "1000",
-        written: "fault: c.pl:2 NotBuilt\n",
-        status: 3,
+        written: "answer: q\nend: no more answers\n",
+        status: 0,
     },
     Case {
         text: CYCLIC,
@@ -242,7 +242,7 @@ const CASES: [Case; 38] = [
         text: ":- module(d,[p/0]).\np.\n",
         query: "p",
         steps: "1",
-        written: "fault: c.pl:1 NotBuilt\n",
+        written: "fault: c.pl:1 BadModule\n",
         status: 3,
     },
     // lists

@@ -115,12 +115,12 @@ const CASES: [Case; 17] = [
         written: "fault: c.pl:1 Undefined\n",
         status: 3,
     },
-    // a sentence that is not built yet is told first
+    // a clause that is none, on a later line
     Case {
-        text: ":- module(c,[q/0]).\nq :- r.\nq :- X = 1.\n",
+        text: ":- module(c,[q/0]).\nq :- r.\nq :- 1.\n",
         query: "q",
         steps: "5",
-        written: "fault: c.pl:3 NotBuilt\n",
+        written: "fault: c.pl:2 Undefined\n",
         status: 3,
     },
     // a query that cannot be read is told later

@@ -1,10 +1,10 @@
 -- How answers come out.
 use Rattle.std.proofs.Common.{◌≡◌, ◌⊎◌, inl, inr, ℕ, Bool, ◌+◌, ◌≤◌, [], ◌++◌, take, length, min, refl, ◌∙◌, sym, ap, subst, Option, Some, None, arith, append-nil}
 use Rattle.std.proofs.lemmas.List.{append_assoc, take_min, take-append-le}
-use Rattle.std.proofs.Math.Seq.{take-append-add, take-append_seam}
-use Rattle.byte_io.specs.Outside.{Rose, grown, TookFront}
-use Rattle.ciao_top.specs.Words.{Word}
-use Rattle.ciao_top.specs.Answers.{IsPrefix, Output, output_of, with_piece}
+use Rattle.std.proofs.Math.Seq.{take-append-add}
+use Rattle.byte_io.specs.Outside.{Rose, grown}
+use Rattle.ciao_modules.specs.FileNames.{Word}
+use Rattle.ciao_top.specs.Answers.{IsPrefix, Output, with_piece}
 use Rattle.ciao_top.specs.InnerAnswers.{DeviceGoesOn, GrewByFront, Only, HasBegun, Comes, Whole, SinkFailed, MemoryWanted, HasWritten}
 
 -- what was written
@@ -25,23 +25,11 @@ written_twice_grown (Some w) a b = ap Some (append_assoc w a b)
 pub grown_twice : (old : Output) (a b : Word) → with_piece (with_piece old a) b ≡ with_piece old (a ++ b)
 grown_twice old a b = λ i. record { written = written_twice_grown old.written a b i; taken = append_assoc old.taken a b i }
 
--- a text was written, by what the sink tells
-pub wrote_all : (text taken taken' : Word) (written written' : Option Word) → taken' ≡ taken ++ text → written' ≡ grown written text → output_of written' taken' ≡ with_piece (output_of written taken) text
-wrote_all text taken taken' written written' t w = λ i. record { written = w i; taken = t i }
-
--- or a front of it
-pub wrote_front : (text taken taken' : Word) (written written' : Option Word) → TookFront taken taken' written written' text → GrewByFront (output_of written taken) (output_of written' taken') text
-wrote_front text taken taken' written written' t = (t.0, wrote_all (take t.0 text) taken taken' written written' t.1 t.2)
-
 -- fronts
 
 -- a prefix of the first part is one of the whole
 pub front_of_first : (n : ℕ) (a b : Word) → IsPrefix (take n a) (a ++ b)
 front_of_first n a b = (min n (length a), sym (take_min n a) ∙ sym (take-append-le (min n (length a)) a b (omega arith)))
-
--- the first part is a front
-pub first_is_front : (a b : Word) → IsPrefix a (a ++ b)
-first_is_front a b = (length a, sym (take-append_seam a b))
 
 -- a prefix of the second part, behind the first one
 pub front_behind : (a f b : Word) → IsPrefix f b → IsPrefix (a ++ f) (a ++ b)
@@ -80,10 +68,6 @@ comes_as D E writing old new result to from (Whole text d grew) = Whole text (to
 comes_as D E writing old new result to from (SinkFailed is rose b) = SinkFailed is rose (record { piece = b.piece; begins = λ t s e. b.begins t s (from t s e); grew = b.grew })
 comes_as D E writing old new result to from (MemoryWanted is b) = MemoryWanted is (record { piece = b.piece; begins = λ t s e. b.begins t s (from t s e); grew = b.grew })
 
--- memory was wanted before anything was written
-pub wanted : (D : Word → ℕ → Type 0) (writing : Type 0) (old new : Output) (result : ℕ) → result ≡ 9 → new ≡ old → Comes D writing old new result
-wanted D writing old new result is same = MemoryWanted is (record { piece = []; begins = λ t s d. (0, refl); grew = same ∙ same_grown old })
-
 -- a prefix of the text was written, and the sink refused or memory was wanted
 pub cut_short : (D : Word → ℕ → Type 0) (before after : ℕ) (old new : Output) (result : ℕ) → ((result ≡ 8) × Rose before after) ⊎ (result ≡ 9)
     → HasBegun D old new → Comes D (Rose before after) old new result
@@ -102,14 +86,6 @@ comes_only D line told writing old new result has one (MemoryWanted is b) =
     MemoryWanted is (record { piece = b.piece; begins = λ t s d. subst (λ x. IsPrefix b.piece x) (sym (one t s d)) (b.begins line told (refl, refl)); grew = b.grew })
 
 -- the writing of a text
-
--- it was written
-pub only_whole : (line : Word) (told : ℕ) (writing : Type 0) (old new : Output) → new ≡ with_piece old line → Comes (Only line told) writing old new told
-only_whole line told writing old new grew = Whole line (refl, refl) grew
-
--- an equal text was written
-pub only_same : (line line' : Word) (told : ℕ) (writing : Type 0) (old new : Output) (result : ℕ) → line ≡ line' → Comes (Only line told) writing old new result → Comes (Only line' told) writing old new result
-only_same line line' told writing old new result same comes = subst (λ t. Comes (Only t told) writing old new result) same comes
 
 -- a prefix of it was written
 pub only_begun : (line : Word) (told : ℕ) (old new : Output) → GrewByFront old new line → HasBegun (Only line told) old new
@@ -151,13 +127,3 @@ comes_behind D E before mid after old middle new result le a (Whole text e grew)
 comes_behind D E before mid after old middle new result le a (SinkFailed is rose b) =
     SinkFailed is (rose_later before mid after le rose) (begun_behind D E old middle new a b)
 comes_behind D E before mid after old middle new result le a (MemoryWanted is b) = MemoryWanted is (begun_behind D E old middle new a b)
-
--- a piece and then want of memory
-pub wanted_behind : (D E : Word → ℕ → Type 0) (writing : Type 0) (old new : Output) (result : ℕ) → result ≡ 9 → HasWritten D E old new → Comes D writing old new result
-wanted_behind D E writing old new result is a = MemoryWanted is (record {
-  piece = a.piece;
-  begins = λ t s d.
-      let x = a.back t s d in
-      subst (λ y. IsPrefix a.piece y) (sym x.1) (first_is_front a.piece x.0);
-  grew = a.grew;
-})

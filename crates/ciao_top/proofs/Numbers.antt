@@ -1,5 +1,6 @@
 use Rattle.std.proofs.Common.{◌≡◌, ℕ, ◌+◌, ◌-◌, ◌*◌, ◌<◌, [], ◌∷◌, refl, Bool, true, false, Some, None, if◌then◌else◌, nat_le, arith, ap}
-use Rattle.ciao_top.specs.Words.{Word, is_digit, number_behind}
+use Rattle.ciao_modules.specs.FileNames.{Word}
+use Rattle.ciao_top.specs.Words.{is_digit, number_behind}
 
 -- what is above the limit is not within it
 not_within : (n most : ℕ) → most < n → nat_le n most ≡ false

@@ -1,11 +1,11 @@
 -- What is found in words decides whether they are accepted.
 use Rattle.std.proofs.Common.{◌≡◌, ℕ, Bool, true, false, ◌&&◌, List, [], ◌∷◌, ◌++◌, Option, Some, None, option_map, if◌then◌else◌, bytes_eq, ap, sym, ◌∙◌, refl}
 use Rattle.std.specs.Option.{option_and_then}
-use Rattle.ciao_top.specs.Words.{Word, is_main_file}
-use Rattle.ciao_top.specs.WordsTable.{OptionRow, steps_row, run_row}
+use Rattle.ciao_modules.specs.FileNames.{Word, is_main_file}
+use Rattle.ciao_top.specs.WordsTable.{OptionRow, steps_row, answers_row, run_row}
 use Rattle.ciao_top.specs.WordsCut.{GivenOption, WordParts, WordUse, Separator, Name, Given, Positional, Dashed, use_of, no_parts, with_positional, with_option, cut_by, cut_words}
-use Rattle.ciao_top.specs.WordsAccepted.{values_of, number_for, number_within, are_of_kinds, accepted_parts, RunWords, run_of, run_by}
-use Rattle.ciao_top.specs.WordsFound.{more_words, FoundWords, nothing_found, few_words, few_values, found_of, all_and, one_more, value_and, found_with, find_by, find_words, run_found}
+use Rattle.ciao_top.specs.WordsAccepted.{values_of, number_for, are_of_kinds, accepted_parts, RunWords, run_of, run_by}
+use Rattle.ciao_top.specs.WordsFound.{FewValues, more_words, FoundWords, nothing_found, few_words, few_values, found_of, all_and, one_more, value_and, found_with, find_by, find_words, number_found, run_numbered, run_found}
 
 -- words behind others
 
@@ -82,46 +82,61 @@ module _ (rows : List OptionRow) (name : Word) where
 
 -- the run of what is found
 
-abbrev run_in : Option FoundWords → Option RunWords
-run_in found = option_and_then (λ f. run_found f.positional f.value) found
+-- the number of an option by what is found of its values
+number_same : (row : OptionRow) (values : List Word) → number_for row values ≡ number_found row (few_values values)
+number_same row [] = refl
+number_same row (value ∷ []) = refl
+number_same row (value ∷ another ∷ values) = refl
+
+-- the numbers of the options of `run`
+abbrev numbers_of : Option (Option ℕ) → Option (Option ℕ) → Option (List (Option ℕ))
+numbers_of steps answers = option_and_then (λ n. option_map (λ ns. n ∷ ns) (option_and_then (λ m. option_map (λ ms. m ∷ ms) (Some [])) answers)) steps
+
+-- the run of positional words and of the numbers
+abbrev run_by_parts : Bool → List Word → Option (Option ℕ) → Option (Option ℕ) → Option RunWords
+run_by_parts are positional steps answers = option_and_then run_of (if are then option_map (λ numbers. record { words = positional; numbers = numbers }) (numbers_of steps answers) else None)
 
 -- two positional words
-with_two : (is_main : Bool) (file query : Word) (number : Option ℕ)
-    → option_and_then run_of (if is_main && true then option_map (λ numbers. record { words = file ∷ query ∷ []; numbers = numbers }) (option_and_then (λ n. option_map (λ ns. n ∷ ns) (Some [])) (option_map (λ n. Some n) number)) else None)
-    ≡ (if is_main then option_map (λ steps. record { file = file; query = query; steps = steps }) number else None)
-with_two true file query None = refl
-with_two true file query (Some steps) = refl
-with_two false file query number = refl
-
--- no value, or several
-without_number : (are : Bool) (positional : List Word) → option_and_then run_of (if are then option_map (λ (numbers : List (Option ℕ)). record { words = positional; numbers = numbers }) None else None) ≡ None
-without_number true positional = refl
-without_number false positional = refl
+with_two : (is_main : Bool) (file query : Word) (steps answers : Option (Option ℕ)) → run_by_parts (is_main && true) (file ∷ query ∷ []) steps answers ≡ (if is_main then run_numbered file query steps answers else None)
+with_two true file query None answers = refl
+with_two true file query (Some None) None = refl
+with_two true file query (Some None) (Some limit) = refl
+with_two true file query (Some (Some n)) None = refl
+with_two true file query (Some (Some n)) (Some limit) = refl
+with_two false file query steps answers = refl
 
 false_behind : (b : Bool) → (b && false) ≡ false
 false_behind true = refl
 false_behind false = refl
 
 -- another number of positional words
-without_words : (are : Bool) (positional : List Word) (numbers : Option (List (Option ℕ))) → are ≡ false → option_and_then run_of (if are then option_map (λ ns. record { words = positional; numbers = ns }) numbers else None) ≡ None
-without_words are positional numbers is = ap (λ b. option_and_then run_of (if b then option_map (λ ns. record { words = positional; numbers = ns }) numbers else None)) is
+without_words : (are : Bool) (positional : List Word) (steps answers : Option (Option ℕ)) → are ≡ false → run_by_parts are positional steps answers ≡ None
+without_words are positional steps answers is = ap (λ b. run_by_parts b positional steps answers) is
 
--- the numbers of the options of `run`, by the values of `--steps`
-abbrev numbers_of : List Word → Option (List (Option ℕ))
-numbers_of values = option_and_then (λ n. option_map (λ ns. n ∷ ns) (Some [])) (number_for steps_row values)
+run_of_parts : (positional : List Word) (steps answers : FewValues)
+    → run_by_parts (are_of_kinds run_row.kinds positional) positional (number_found steps_row steps) (number_found answers_row answers) ≡ run_found (few_words positional) steps answers
+run_of_parts [] steps answers = refl
+run_of_parts (file ∷ []) steps answers = without_words (is_main_file file && false) (file ∷ []) (number_found steps_row steps) (number_found answers_row answers) (false_behind (is_main_file file))
+run_of_parts (file ∷ query ∷ []) steps answers = with_two (is_main_file file) file query (number_found steps_row steps) (number_found answers_row answers)
+run_of_parts (file ∷ query ∷ another ∷ words) steps answers =
+    without_words (is_main_file file && (true && false)) (file ∷ query ∷ another ∷ words) (number_found steps_row steps) (number_found answers_row answers) (false_behind (is_main_file file))
 
-run_of_parts : (positional values : List Word) → option_and_then run_of (if are_of_kinds run_row.kinds positional then option_map (λ numbers. record { words = positional; numbers = numbers }) (numbers_of values) else None) ≡ run_found (few_words positional) (few_values values)
-run_of_parts [] values = without_words false [] (numbers_of values) refl
-run_of_parts (file ∷ []) values = without_words (is_main_file file && false) (file ∷ []) (numbers_of values) (false_behind (is_main_file file))
-run_of_parts (file ∷ query ∷ []) [] = without_number (is_main_file file && true) (file ∷ query ∷ [])
-run_of_parts (file ∷ query ∷ []) (value ∷ []) = with_two (is_main_file file) file query (number_within steps_row value)
-run_of_parts (file ∷ query ∷ []) (value ∷ another ∷ values) = without_number (is_main_file file && true) (file ∷ query ∷ [])
-run_of_parts (file ∷ query ∷ another ∷ words) values = without_words (is_main_file file && (true && false)) (file ∷ query ∷ another ∷ words) (numbers_of values) (false_behind (is_main_file file))
+-- the run of what is found for `--steps` and for `--answers`
+abbrev run_in : Option FoundWords → Option FoundWords → Option RunWords
+run_in found limited = option_and_then (λ f. option_and_then (λ g. run_found f.positional f.value g.value) limited) found
 
-run_of_cut : (parts : Option WordParts) → option_and_then run_of (option_and_then (accepted_parts run_row) parts) ≡ run_in (option_map (found_of steps_row.name) parts)
+run_of_cut : (parts : Option WordParts) → option_and_then run_of (option_and_then (accepted_parts run_row) parts) ≡ run_in (option_map (found_of steps_row.name) parts) (option_map (found_of answers_row.name) parts)
 run_of_cut None = refl
-run_of_cut (Some parts) = run_of_parts parts.positional (values_of steps_row.name parts.given)
+run_of_cut (Some parts) =
+    ap (λ n. run_by_parts (are_of_kinds run_row.kinds parts.positional) parts.positional n (number_for answers_row (values_of answers_row.name parts.given))) (number_same steps_row (values_of steps_row.name parts.given))
+    ∙ ap (λ n. run_by_parts (are_of_kinds run_row.kinds parts.positional) parts.positional (number_found steps_row (few_values (values_of steps_row.name parts.given))) n) (number_same answers_row (values_of answers_row.name parts.given))
+    ∙ run_of_parts parts.positional (few_values (values_of steps_row.name parts.given)) (few_values (values_of answers_row.name parts.given))
 
 -- the run that words behind `run` are
-pub run_is : (words : List Word) → run_by words run_row ≡ option_and_then (λ f. run_found f.positional f.value) (find_words (steps_row ∷ []) steps_row.name None nothing_found words)
-run_is words = run_of_cut (cut_words (steps_row ∷ []) None no_parts words) ∙ ap run_in (sym (is_found (steps_row ∷ []) steps_row.name words None no_parts))
+pub run_is : (words : List Word)
+    → run_by words run_row
+    ≡ option_and_then (λ f. option_and_then (λ g. run_found f.positional f.value g.value) (find_words run_row.options answers_row.name None nothing_found words)) (find_words run_row.options steps_row.name None nothing_found words)
+run_is words =
+    run_of_cut (cut_words run_row.options None no_parts words)
+    ∙ ap (λ f. run_in f (option_map (found_of answers_row.name) (cut_words run_row.options None no_parts words))) (sym (is_found run_row.options steps_row.name words None no_parts))
+    ∙ ap (run_in (find_words run_row.options steps_row.name None nothing_found words)) (sym (is_found run_row.options answers_row.name words None no_parts))

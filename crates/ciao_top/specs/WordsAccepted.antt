@@ -1,7 +1,8 @@
 -- The words of the command line that are accepted.
 use Rattle.std.specs.Prelude.{ℕ, Bool, true, false, ◌&&◌, List, [], ◌∷◌, nat_le, Option, Some, None, option_map, if◌then◌else◌, bytes_eq}
 use Rattle.std.specs.Option.{option_and_then}
-use Rattle.ciao_top.specs.Words.{Word, number_of, is_main_file}
+use Rattle.ciao_modules.specs.FileNames.{Word, is_main_file}
+use Rattle.ciao_top.specs.Words.{number_of}
 use Rattle.ciao_top.specs.WordsTable.{WordKind, MainFile, AnyText, OptionRow, CommandRow, command_table, row_named}
 use Rattle.ciao_top.specs.WordsCut.{GivenOption, WordParts, no_parts, cut_words}
 
@@ -53,15 +54,16 @@ accepted_parts row parts =
 abbrev pub accepted_by : List Word → CommandRow → Option AcceptedParts
 accepted_by words row = option_and_then (accepted_parts row) (cut_words row.options None no_parts words)
 
--- a run of a query of a file, with its bound
+-- a run of a query of a file, with its bound and, where it is given, its answer limit
 pub record RunWords : Type 0 where
   pub file : Word
   pub query : Word
   pub steps : ℕ
+  pub answers : Option ℕ
 
--- the run of a file and a query, with a bound
+-- the run of a file and a query, with a bound and perhaps an answer limit
 abbrev pub run_with : List Word → List (Option ℕ) → Option RunWords
-run_with (file ∷ query ∷ []) (Some steps ∷ []) = Some (record { file = file; query = query; steps = steps })
+run_with (file ∷ query ∷ []) (Some steps ∷ answers ∷ []) = Some (record { file = file; query = query; steps = steps; answers = answers })
 run_with words numbers = None
 
 -- the run that accepted words are

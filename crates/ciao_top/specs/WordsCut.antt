@@ -2,7 +2,7 @@
 use Rattle.std.specs.Prelude.{◌==◌, Bool, ◌&&◌, nat_le, List, [], ◌∷◌, ◌++◌, slice_index_or, length, take, drop, Option, Some, None, if◌then◌else◌, bytes_eq, codes}
 use Rattle.std.specs.List.{list_any}
 use Rattle.std.specs.Str.{byte}
-use Rattle.ciao_top.specs.Words.{Word}
+use Rattle.ciao_modules.specs.FileNames.{Word}
 use Rattle.ciao_top.specs.WordsTable.{OptionRow}
 
 -- an option that is given: its name and its value

@@ -1,8 +1,8 @@
 -- What is found in words that are cut, with no list of their parts.
 -- The headline does not rest on this file.
-use Rattle.std.specs.Prelude.{List, [], ◌∷◌, Option, Some, None, option_map, if◌then◌else◌, bytes_eq}
-use Rattle.ciao_top.specs.Words.{Word, is_main_file}
-use Rattle.ciao_top.specs.WordsTable.{OptionRow, steps_row}
+use Rattle.std.specs.Prelude.{ℕ, List, [], ◌∷◌, Option, Some, None, option_map, if◌then◌else◌, bytes_eq}
+use Rattle.ciao_modules.specs.FileNames.{Word, is_main_file}
+use Rattle.ciao_top.specs.WordsTable.{OptionRow, steps_row, answers_row}
 use Rattle.ciao_top.specs.WordsCut.{GivenOption, WordParts, WordUse, Separator, Name, Given, Positional, Dashed, use_of}
 use Rattle.ciao_top.specs.WordsAccepted.{values_of, number_within, RunWords}
 
@@ -86,7 +86,18 @@ find_words rows name (Some due) found [] = None
 find_words rows name (Some due) found (value ∷ words) = find_words rows name None (found_with name found (record { name = due; value = value })) words
 find_words rows name None found (word ∷ words) = find_by name (use_of rows word) word words found (λ due more. find_words rows name due more words)
 
--- the run of what is found
-abbrev pub run_found : FewWords → FewValues → Option RunWords
-run_found (two_words file query) (one_value value) = if is_main_file file then option_map (λ steps. record { file = file; query = query; steps = steps }) (number_within steps_row value) else None
-run_found few value = None
+-- the number of an option of which these values are found; the inner None is an option that does not stand
+abbrev pub number_found : OptionRow → FewValues → Option (Option ℕ)
+number_found row no_value = if row.is_needed then None else Some None
+number_found row (one_value value) = option_map (λ n. Some n) (number_within row value)
+number_found row more_values = None
+
+-- the run of a file and a query, with the numbers of `--steps` and of `--answers`
+abbrev pub run_numbered : Word → Word → Option (Option ℕ) → Option (Option ℕ) → Option RunWords
+run_numbered file query (Some (Some steps)) (Some answers) = Some (record { file = file; query = query; steps = steps; answers = answers })
+run_numbered file query steps answers = None
+
+-- the run of what is found: the positional words, and the values of `--steps` and of `--answers`
+abbrev pub run_found : FewWords → FewValues → FewValues → Option RunWords
+run_found (two_words file query) steps answers = if is_main_file file then run_numbered file query (number_found steps_row steps) (number_found answers_row answers) else None
+run_found few steps answers = None

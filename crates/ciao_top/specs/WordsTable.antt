@@ -1,6 +1,6 @@
 -- The table of the commands: their positional words and their options.
-use Rattle.std.specs.Prelude.{ℕ, ◌-◌, ◌^◌, Bool, true, List, [], ◌∷◌, Option, Some, None, if◌then◌else◌, bytes_eq, codes}
-use Rattle.ciao_top.specs.Words.{Word}
+use Rattle.std.specs.Prelude.{ℕ, ◌-◌, ◌^◌, Bool, true, false, List, [], ◌∷◌, Option, Some, None, if◌then◌else◌, bytes_eq, codes}
+use Rattle.ciao_modules.specs.FileNames.{Word}
 
 -- what a positional word is
 pub data WordKind : Type 0 where
@@ -24,9 +24,13 @@ pub record CommandRow : Type 0 where
 abbrev pub steps_row : OptionRow
 steps_row = record { name = codes "--steps"; least = 0; most = 2 ^ 63 - 1; is_needed = true }
 
--- `run FILE QUERY --steps N`
+-- `--answers K`
+abbrev pub answers_row : OptionRow
+answers_row = record { name = codes "--answers"; least = 1; most = 2 ^ 63 - 1; is_needed = false }
+
+-- `run FILE QUERY --steps N [--answers K]`
 abbrev pub run_row : CommandRow
-run_row = record { name = codes "run"; kinds = MainFile ∷ AnyText ∷ []; options = steps_row ∷ [] }
+run_row = record { name = codes "run"; kinds = MainFile ∷ AnyText ∷ []; options = steps_row ∷ answers_row ∷ [] }
 
 -- the commands
 abbrev pub command_table : List CommandRow

@@ -1,31 +1,20 @@
 // The writing of a run.
-ghost use Rattle.std.specs.Prelude.{◌≡◌, ◌⊎◌, ◌≤◌, ◌^◌, true, IfErr, IfNone, IsSome, OnOk, OnErr, MatchOption};
+ghost use Rattle.std.specs.Prelude.{◌≡◌, ◌⊎◌, false, IfErr, IsSome, OnOk, OnErr};
 ghost use Rattle.byte_io.specs.Outside.{Rose};
 ghost use Rattle.prog_data.specs.Goals.{called_by};
 ghost use Rattle.prog_data.specs.Programs.{IsProgram};
 ghost use Rattle.sld_engine.specs.Runs.{left_of, program_of, bound_of, reading_of};
-ghost use Rattle.ciao_top.specs.RunText.{event_text, ending_status};
-ghost use Rattle.ciao_top.specs.Answers.{RunAnswers, output_of, with_piece};
-ghost use Rattle.ciao_top.specs.InnerAnswers.{DeviceGoesOn, Comes, GrewByFront, HasWritten, event_status, RunTells, GoesOn};
+ghost use Rattle.run_report.specs.RunText.{event_text};
+ghost use Rattle.ciao_top.specs.Limits.{RunAnswers, limit_line};
+ghost use Rattle.ciao_top.specs.Answers.{output_of, with_piece};
+ghost use Rattle.ciao_top.specs.InnerAnswers.{DeviceGoesOn, Comes, Only, GrewByFront, event_status, limit_behind, is_reached, behind_event, RunTells, IsBehind, GoesBehind};
 
 use crate::prepare::Prepared;
-use crate::texts::event_text;
 use byte_io::{Sink, SinkFault, write_all};
-use prog_data::{Ending, Event, Program};
+use prog_data::{Event, Program};
+use run_report::{ending_status, event_text};
 use sld_engine::{Reading, Run};
 use std::alloc::Global;
-
-// The status of an ending.
-fn ending_status(ending: &Ending) -> u8
-    ensures { result ≡ ending_status ending.now }
-{
-    match ending {
-        Ending::NoMore => 0,
-        Ending::Violated(_) => 1,
-        Ending::Bound => 5,
-        Ending::Cyclic(_) | Ending::Arithmetic(_, _) => 6,
-    }
-}
 
 // The status with which an event ends a run.
 fn event_status(event: &Event) -> Option<u8>
@@ -69,44 +58,110 @@ fn write_event<S: Sink>(
     }
 }
 
-// Writes the next event. None: the run goes on; else the status with which the answer ends.
+// How many answers may still be told behind an event, where they are limited.
+fn limit_behind(event: &Event, limit: Option<u64>) -> Option<u64>
+    ensures { result ≡ limit_behind event.now limit }
+{
+    match limit {
+        None => None,
+        Some(count) => match event {
+            Event::Answer(_) => Some(count.saturating_sub(1)),
+            Event::Out(_) | Event::End(_) | Event::Broken(_) => Some(count),
+        },
+    }
+}
+
+// Whether no answer may be told any more.
+fn is_reached(limit: Option<u64>) -> bool
+    ensures { result ≡ is_reached limit }
+{
+    match limit {
+        None => false,
+        Some(count) => count == 0,
+    }
+}
+
+// What comes behind an event.
+#[derive(Clone, Copy, Drop)]
+enum Following {
+    // The run goes on, with so many answers that may still be told, where they are limited.
+    GoesOn(Option<u64>),
+    // It ends with this status.
+    Ends(u8),
+}
+
+// What comes behind an event that was written.
+fn behind(event: &Event, limit: Option<u64>) -> Following
+    ensures { result ≡ behind_event event.now limit }
+{
+    match event_status(event) {
+        None => Following::GoesOn(limit_behind(event, limit)),
+        Some(status) => Following::Ends(status),
+    }
+}
+
+// Writes the next event of a run that may still tell answers.
 fn write_next<S: Sink>(
     alloc: Global,
     program: &Program,
     run: &mut Run<'_>,
+    limit: Option<u64>,
     out: &mut S,
-) -> Option<u8>
+) -> Following
     requires program { program_of run.old ≡ program.now }
     requires reading { reading_of run.old ≡ Reading.All }
-    ensures told { MatchOption result
-        (HasWritten (RunTells program.now (bound_of run.old) (left_of run.old)) (RunTells program.now (bound_of run.old) (left_of run.new)) (output_of (S.written out.old) (S.taken out.old)) (output_of (S.written out.new) (S.taken out.new)))
-        (λ status. Comes (RunTells program.now (bound_of run.old) (left_of run.old)) (Rose (S.faults out.old) (S.faults out.new)) (output_of (S.written out.old) (S.taken out.old)) (output_of (S.written out.new) (S.taken out.new)) status) }
-    ensures goes { IfNone result (GoesOn program.now (bound_of run.old) (left_of run.old) (left_of run.new)) }
+    requires limit { is_reached limit ≡ false }
+    ensures told { IsBehind program.now (bound_of run.old) limit (left_of run.old) (left_of run.new) (Rose (S.faults out.old) (S.faults out.new))
+        (output_of (S.written out.old) (S.taken out.old)) (output_of (S.written out.new) (S.taken out.new)) result }
+    ensures goes { GoesBehind program.now (bound_of run.old) (left_of run.old) (left_of run.new) result }
     ensures sink { DeviceGoesOn (S.steady out.old) (S.steady out.new) (S.faults out.old) (S.faults out.new) }
     ensures program { program_of run.new ≡ program.now }
     ensures reading { reading_of run.new ≡ Reading.All }
     ensures bound { bound_of run.new ≡ bound_of run.old }
 {
     match run.next() {
-        Err(_) => Some(9),
+        Err(_) => Following::Ends(9),
         Ok(event) => match write_event(alloc, program, &event, out) {
-            Err(status) => Some(status),
-            Ok(()) => event_status(&event),
+            Err(status) => Following::Ends(status),
+            Ok(()) => behind(&event, limit),
         },
     }
 }
 
-// Writes a run to its end.
-fn write_run<S: Sink>(alloc: Global, program: &Program, run: &mut Run<'_>, out: &mut S) -> u8
-    requires program { program_of run.old ≡ program.now }
-    requires reading { reading_of run.old ≡ Reading.All }
-    ensures comes { Comes (RunTells program.now (bound_of run.old) (left_of run.old)) (Rose (S.faults out.old) (S.faults out.new)) (output_of (S.written out.old) (S.taken out.old)) (output_of (S.written out.new) (S.taken out.new)) result }
+// Writes the line of the answer limit, and gives the status.
+fn write_limit<S: Sink>(out: &mut S) -> u8
+    ensures comes { Comes (Only limit_line 0) (Rose (S.faults out.old) (S.faults out.new))
+        (output_of (S.written out.old) (S.taken out.old)) (output_of (S.written out.new) (S.taken out.new)) result }
     ensures sink { DeviceGoesOn (S.steady out.old) (S.steady out.new) (S.faults out.old) (S.faults out.new) }
 {
+    match write_text(out, "end: answer limit\n") {
+        Ok(()) => 0,
+        Err(status) => status,
+    }
+}
+
+// Writes a run to its end, or to the last answer that may be told.
+fn write_run<S: Sink>(
+    alloc: Global,
+    program: &Program,
+    run: &mut Run<'_>,
+    limit: Option<u64>,
+    out: &mut S,
+) -> u8
+    requires program { program_of run.old ≡ program.now }
+    requires reading { reading_of run.old ≡ Reading.All }
+    requires left { IsSome (left_of run.old) }
+    ensures comes { Comes (RunTells program.now (bound_of run.old) limit (left_of run.old)) (Rose (S.faults out.old) (S.faults out.new)) (output_of (S.written out.old) (S.taken out.old)) (output_of (S.written out.new) (S.taken out.new)) result }
+    ensures sink { DeviceGoesOn (S.steady out.old) (S.steady out.new) (S.faults out.old) (S.faults out.new) }
+{
+    let mut more = limit;
     'events: loop {
-        match write_next(alloc, program, run, out) {
-            None => {}
-            Some(status) => return status,
+        if is_reached(more) {
+            return write_limit(out);
+        }
+        match write_next(alloc, program, run, more, out) {
+            Following::GoesOn(next) => more = next,
+            Following::Ends(status) => return status,
         }
     }
 }
@@ -116,11 +171,12 @@ pub(crate) fn write_whole<S: Sink>(
     alloc: Global,
     prepared: &Prepared,
     bound: u64,
+    limit: Option<u64>,
     out: &mut S,
 ) -> u8
     requires program { IsProgram prepared.now.program }
     requires called { IsSome (called_by prepared.now.program prepared.now.query) }
-    ensures comes { Comes (RunAnswers prepared.now.program prepared.now.query bound) (Rose (S.faults out.old) (S.faults out.new))
+    ensures comes { Comes (RunAnswers prepared.now.program prepared.now.query bound limit) (Rose (S.faults out.old) (S.faults out.new))
         (output_of (S.written out.old) (S.taken out.old)) (output_of (S.written out.new) (S.taken out.new)) result }
     ensures sink { DeviceGoesOn (S.steady out.old) (S.steady out.new) (S.faults out.old) (S.faults out.new) }
 {
@@ -129,7 +185,7 @@ pub(crate) fn write_whole<S: Sink>(
         Err(_) => 9,
         Ok(run) => {
             let mut run = run;
-            write_run(alloc, program, &mut run, out)
+            write_run(alloc, program, &mut run, limit, out)
         }
     }
 }

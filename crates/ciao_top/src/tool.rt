@@ -1,16 +1,18 @@
 // The top call.
 ghost use Rattle.std.specs.Prelude.{◌≡◌, ◌≤◌, ◌++◌, map, string_bytes};
 ghost use Rattle.byte_io.specs.Outside.{Rose, StaysSteady};
+ghost use Rattle.ciao_modules.specs.LoadReads.{new_reads};
 ghost use Rattle.ciao_top.specs.Lines.{stop_text, stop_status};
-ghost use Rattle.ciao_top.specs.Answers.{Answered, Complete, OneAnswer, SomeAnswer, Completeness, new_reads, output_of};
-ghost use Rattle.ciao_top.specs.FixedNames.{FixedNamesArePlaces};
+ghost use Rattle.ciao_top.specs.Answers.{Answered, Complete, OneAnswer, SomeAnswer, Completeness, output_of};
 ghost use Rattle.ciao_top.specs.InnerAnswers.{DeviceGoesOn, Comes, Only};
 
 use crate::prepare::prepare;
+use crate::relied::relied_law;
 use crate::runs::{write_text, write_whole};
 use crate::stops::{Reason, Stop, stop_status, stop_text};
 use crate::words::read_words;
 use byte_io::{Files, Sink};
+use ciao_modules::some_load_law;
 use machine_model::{ends_law, one_run_law};
 use std::alloc::Global;
 use std::thread::Threads;
@@ -32,7 +34,8 @@ fn write_stop<S: Sink>(alloc: Global, stop: &Stop, out: &mut S) -> u8
 
 /// Runs the command that the words are, and gives the status.
 ///
-/// The words are `run FILE QUERY --steps N`. Each event of the run is written as one piece, and then its ending.
+/// The words are `run FILE QUERY --steps N`, perhaps with `--answers K`. The files that are reached from FILE are read, and
+/// linked to a program. Each event of the run is written as one piece, and then its ending, or the line of the answer limit.
 /// The status is 0 to 6 by the ending or the fault that is told, 7 where a file could not be read, 8 where the
 /// sink refused, and 9 for want of memory.
 pub fn run_tool<R: Threads + Sync, F: Files, S: Sink>(
@@ -54,11 +57,12 @@ pub fn run_tool<R: Threads + Sync, F: Files, S: Sink>(
     ensures steady { StaysSteady (F.steady files.old) (F.steady files.new) (F.faults files.old) (F.faults files.new)
         × StaysSteady (S.steady out.old) (S.steady out.new) (S.faults out.old) (S.faults out.new) }
 {
+    relied_law(); // for the proof
     match read_words(words) {
         None => write_stop(alloc, &Stop::Refused(Reason::NoCommand), out),
         Some(command) => match prepare(alloc, &command, files) {
             Err(stop) => write_stop(alloc, &stop, out),
-            Ok(prepared) => write_whole(alloc, &prepared, command.steps, out),
+            Ok(prepared) => write_whole(alloc, &prepared, command.steps, command.answers, out),
         },
     }
 }
@@ -67,6 +71,7 @@ pub fn run_tool<R: Threads + Sync, F: Files, S: Sink>(
 pub fn one_answer_law()
     ensures { OneAnswer }
 {
+    relied_law();
     one_run_law();
 }
 
@@ -75,14 +80,10 @@ pub fn some_answer_law()
     ensures { SomeAnswer }
 {
     ends_law();
+    some_load_law();
 }
 
 /// Without a rise of a count the text and the status are the defined ones, or memory was wanted.
 pub fn completeness_law()
     ensures { Completeness }
-{}
-
-/// The names that ask something of an argument are those of the basic properties, with what each asks.
-pub fn fixed_names_law()
-    ensures { FixedNamesArePlaces }
 {}

@@ -1,9 +1,10 @@
 // The words of the command line that are accepted.
 ghost use Rattle.std.specs.Prelude.{◌≡◌, ℕ, ◌+◌, ◌*◌, ◌≤◌, ◌<◌, Bool, true, List, map, length, Option, option_map, string_bytes, None, IfSome, IfNone, IfOk, IsNone};
-ghost use Rattle.ciao_top.specs.Words.{number_of, number_behind, is_digit, is_main_file, shown, base_of};
+ghost use Rattle.ciao_modules.specs.FileNames.{shown, is_main_file};
+ghost use Rattle.ciao_top.specs.Words.{number_of, number_behind, is_digit};
 ghost use Rattle.ciao_top.specs.WordsTable.{run_row};
 ghost use Rattle.ciao_top.specs.WordsAccepted.{AcceptedWords, number_within, run_by};
-ghost use Rattle.ciao_top.specs.WordsFound.{run_found};
+ghost use Rattle.ciao_top.specs.WordsFound.{number_found, run_numbered, run_found};
 ghost use Rattle.ciao_top.specs.WordsSeen.{option_seen, few_seen, value_seen};
 ghost use Rattle.ciao_top.specs.InnerAnswers.{run_words};
 
@@ -12,12 +13,13 @@ mod cutting;
 use cutting::{FewValues, FewWords, OptionRow, find_words};
 use term_core::is_lower_word;
 
-/// A run of a query of a file, with the greatest number of calls.
+/// A run of a query of a file, with the greatest number of calls and, where it is given, of answers.
 #[derive(Clone, Copy, Drop)]
 pub(crate) struct RunCommand<'a> {
     pub(crate) file: &'a str,
     pub(crate) query: &'a str,
     pub(crate) steps: u64,
+    pub(crate) answers: Option<u64>,
 }
 
 // `--steps N`
@@ -28,8 +30,16 @@ const STEPS: OptionRow = OptionRow {
     is_needed: true,
 };
 
+// `--answers K`
+const ANSWERS: OptionRow = OptionRow {
+    name: "--answers",
+    least: 1,
+    most: 9_223_372_036_854_775_807,
+    is_needed: false,
+};
+
 // The options of `run`.
-const RUN_OPTIONS: [OptionRow; 1] = [STEPS];
+const RUN_OPTIONS: [OptionRow; 2] = [STEPS, ANSWERS];
 
 fn is_digit(byte: u8) -> bool
     ensures { result ≡ is_digit byte }
@@ -93,20 +103,6 @@ fn is_main_file(file: &[u8]) -> bool
     is_lower_word(&name[..end]) && &name[end..] == ".pl".as_bytes()
 }
 
-/// The base name of a main file.
-pub(crate) fn base_of(file: &str) -> &str
-    requires { is_main_file file.now ≡ true }
-    ensures { result.now ≡ base_of file.now }
-{
-    let name = behind_slash(file.as_bytes());
-    let end = name.len().saturating_sub(3);
-    match str::from_utf8(&name[..end]) {
-        Ok(base) => base,
-        // A base name is letters, digits and `_`.
-        Err(_) => "",
-    }
-}
-
 // The number that a word is, within the limits of an option.
 fn number_within(row: &OptionRow, word: &[u8]) -> Option<u64>
     ensures { result ≡ number_within (option_seen row.now) word.now }
@@ -123,26 +119,67 @@ fn number_within(row: &OptionRow, word: &[u8]) -> Option<u64>
     }
 }
 
-// The run of two positional words and of the value of `--steps`.
-fn run_found<'a>(positional: FewWords<'a>, value: FewValues<'a>) -> Option<RunCommand<'a>>
+// The number of an option of which these values are found; the inner `None` is an option that does not stand.
+fn number_found(row: &OptionRow, value: FewValues<'_>) -> Option<Option<u64>>
+    ensures { result ≡ number_found (option_seen row.now) (value_seen value.entry) }
+{
+    match value {
+        FewValues::Nothing => { if row.is_needed { None } else { Some(None) } }
+        FewValues::One(value) => match number_within(row, value) {
+            None => None,
+            Some(number) => Some(Some(number)),
+        },
+        FewValues::More => None,
+    }
+}
+
+// The run of a file and a query, with the numbers of `--steps` and of `--answers`.
+fn run_numbered<'a>(
+    file: &'a str,
+    query: &'a str,
+    steps: Option<Option<u64>>,
+    answers: Option<Option<u64>>,
+) -> Option<RunCommand<'a>>
+    ensures file { IfSome result (λ command. command.file.now ≡ file.now) }
+    ensures command { option_map run_words result ≡ run_numbered file.now query.now steps answers }
+{
+    match steps {
+        Some(Some(steps)) => match answers {
+            Some(answers) => Some(RunCommand {
+                file,
+                query,
+                steps,
+                answers,
+            }),
+            None => None,
+        },
+        Some(None) => None,
+        None => None,
+    }
+}
+
+// The run of the positional words, and of the values of `--steps` and of `--answers`.
+fn run_found<'a>(
+    positional: FewWords<'a>,
+    steps: FewValues<'a>,
+    answers: FewValues<'a>,
+) -> Option<RunCommand<'a>>
     ensures main { IfSome result (λ command. is_main_file command.file.now ≡ true) }
-    ensures command { option_map run_words result ≡ run_found (few_seen positional.entry) (value_seen value.entry) }
+    ensures command { option_map run_words result ≡ run_found (few_seen positional.entry) (value_seen steps.entry) (value_seen answers.entry) }
 {
     match positional {
-        FewWords::Two(file, query) => match value {
-            FewValues::One(value) => {
-                if is_main_file(file.as_bytes()) {
-                    match number_within(&STEPS, value) {
-                        None => None,
-                        Some(steps) => Some(RunCommand { file, query, steps }),
-                    }
-                } else {
-                    None
-                }
+        FewWords::Two(file, query) => {
+            if is_main_file(file.as_bytes()) {
+                run_numbered(
+                    file,
+                    query,
+                    number_found(&STEPS, steps),
+                    number_found(&ANSWERS, answers),
+                )
+            } else {
+                None
             }
-            FewValues::Nothing => None,
-            FewValues::More => None,
-        },
+        }
         FewWords::Nothing => None,
         FewWords::One(_) => None,
         FewWords::More => None,
@@ -157,7 +194,10 @@ fn read_run(words: &[String]) -> Option<RunCommand<'_>>
 {
     match find_words(&RUN_OPTIONS, STEPS.name, words) {
         None => None,
-        Some(found) => run_found(found.positional, found.value),
+        Some(found) => match find_words(&RUN_OPTIONS, ANSWERS.name, words) {
+            None => None,
+            Some(limited) => run_found(found.positional, found.value, limited.value),
+        },
     }
 }
 

@@ -30,8 +30,6 @@ pub enum RefusalKind {
     Ambiguous,
     Undefined,
     TooManyNames,
-    /// What the file has is not built yet.
-    NotBuilt,
 }
 
 /// A refusal and its place.
@@ -69,6 +67,5 @@ pub fn kind_word(kind: RefusalKind) -> &'static str
         RefusalKind::Ambiguous => "Ambiguous",
         RefusalKind::Undefined => "Undefined",
         RefusalKind::TooManyNames => "TooManyNames",
-        RefusalKind::NotBuilt => "NotBuilt",
     }
 }

@@ -107,18 +107,18 @@ module _ (h : List Change) (base next v at : ℕ) (may : MayMatch h base next at
   absent : occurs (v + base) (value_of h at) ≡ false
   absent = unmet.places at (omega arith) (omega arith)
 
-  pub first_may : (root : ℕ) → IsMade h → root < size_of h → IsEnd (cell_at (cells_of h) root) → value_of h root ≡ value_of h (v + base) → MayBind h root at
-  first_may root made lt end same =
+  pub first_may : (root to : ℕ) → IsMade h → root < size_of h → IsEnd (cell_at (cells_of h) root) → value_of h root ≡ value_of h (v + base) → to < size_of h → value_of h to ≡ value_of h at → MayBind h root to
+  first_may root to made lt end same below is_at =
       let found = root_free h (v + base) root made lt end same unmet.itself in
-      record { bound = lt; free = found.1; place = omega (arith, may.within); absent = ap (λ w. occurs w (value_of h at)) found.0 ∙ absent }
+      record { bound = lt; free = found.1; place = below; absent = ap (λ t. occurs root t) is_at ∙ ap (λ w. occurs w (value_of h at)) found.0 ∙ absent }
 
-  pub first_matched : (root s : ℕ) → IsMade h → root < size_of h → IsEnd (cell_at (cells_of h) root) → value_of h root ≡ value_of h (v + base) → HasMatched h base at (Var v ∷ []) unified.Same (Binds root at s ∷ h)
-  first_matched root s made lt end same =
+  pub first_matched : (root to s : ℕ) → IsMade h → root < size_of h → IsEnd (cell_at (cells_of h) root) → value_of h root ≡ value_of h (v + base) → value_of h to ≡ value_of h at → HasMatched h base at (Var v ∷ []) unified.Same (Binds root to s ∷ h)
+  first_matched root to s made lt end same is_at =
       let found = root_free h (v + base) root made lt end same unmet.itself in
       let right : Var root ≡ instance (from_base (value_of h) base) (Var v) = ap Var found.0 ∙ sym unmet.itself ∙ variable_value (value_of h) base v in (
         only root (value_of h at),
         subst (λ r. IsMostGeneral (equation (value_of h at) r ∷ []) (only root (value_of h at))) right (binds_first (value_of h at) root (ap (λ w. occurs w (value_of h at)) found.0 ∙ absent)),
-        λ i lt. refl,
+        λ i lt. ap (λ t. instance (only root t) (value_of h i)) is_at,
       )
 
 -- a term in new cells

@@ -79,6 +79,7 @@ fn see(heap: &Heap, at: u64, term: &Term) -> Sight
 }
 
 // A variable that was met is unified; one that was not stands in no other term, so it is bound without a search for it.
+// It is bound to where references end: else arguments that calls hand on would make a chain that grows with each call.
 fn match_variable(
     alloc: Global,
     heap: &mut Heap,
@@ -99,7 +100,8 @@ fn match_variable(
     }
     *next = variable + 1;
     let root = heap.root(place);
-    heap.bind(root, at)?;
+    let end = heap.root(at);
+    heap.bind(root, end)?;
     Ok(Unified::Same)
 }
 

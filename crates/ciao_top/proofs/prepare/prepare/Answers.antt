@@ -1,22 +1,26 @@
-use Rattle.std.proofs.Common.{sym, subst}
-use Rattle.std.proofs.lemmas.Result.{err_from_is_err_and}
-use Rattle.ciao_top.specs.Answers.{new_reads}
-use Rattle.ciao_top.specs.InnerAnswers.{run_words, Fronts}
-use Rattle.ciao_top.proofs.Files.{file_stops, query_ok, query_err}
+use Rattle.byte_io.specs.Outside.{Rose}
+use Rattle.ciao_top.specs.InnerAnswers.{run_words}
+use Rattle.ciao_top.proofs.FileLaws.{no_reads, load_reads, load_stops, loaded_from, units_ok, units_err}
 use Rattle.ciao_top.proofs.prepare.prepare.Goals as goal
 
-pub returns-in_err-linked-clause-err : goal.returns-in_err-linked-clause-err
-returns-in_err-linked-clause-err g c =
-    let fronts = subst (Fronts (run_words c.args.command.now) (new_reads (g.F.Files.reads c.args.files.now) (g.F.Files.reads c.read_file.new.files))) (sym c.deref.ensures.value) c.in_ok-bytes.ensures.ok in
-    let p = err_from_is_err_and c.from_residual-in_err-linked.result c.from_residual-in_err-linked.ensures.1 in
-    rw (p.1, p.2) (file_stops (run_words c.args.command.now) _ c.deref.result.now fronts _ c.in_err-linked.field-0.0 c.in_err-linked.ensures.err)
+pub returns-in-Err-clause-reads : goal.returns-in-Err-clause-reads
+returns-in-Err-clause-reads g c = no_reads _ _ _
 
-pub returns-clause-ok : goal.returns-clause-ok
-returns-clause-ok g c =
-    let fronts = subst (Fronts (run_words c.args.command.now) (new_reads (g.F.Files.reads c.args.files.now) (g.F.Files.reads c.read_file.new.files))) (sym c.deref.ensures.value) c.in_ok-bytes.ensures.ok in
-    query_ok (run_words c.args.command.now) _ c.deref.result.now fronts c.in_ok-linked.linked.program c.in_ok-linked.linked.ops c.with_query.result c.in_ok-linked.ensures.ok c.with_query.ensures.ok
+pub returns-in-Err-load_set-clause-reads : goal.returns-in-Err-load_set-clause-reads
+returns-in-Err-load_set-clause-reads g c = load_reads _ _ _ c.load_set.result _ _ c.in-Ok.ensures c.load_set.ensures.reads c.load_set.ensures.order c.load_set.ensures.tell
 
-pub returns-clause-err : goal.returns-clause-err
-returns-clause-err g c =
-    let fronts = subst (Fronts (run_words c.args.command.now) (new_reads (g.F.Files.reads c.args.files.now) (g.F.Files.reads c.read_file.new.files))) (sym c.deref.ensures.value) c.in_ok-bytes.ensures.ok in
-    query_err (run_words c.args.command.now) _ c.deref.result.now fronts _ c.in_ok-linked.linked.program c.in_ok-linked.linked.ops c.with_query.result c.in_ok-linked.ensures.ok c.with_query.ensures.err
+pub returns-in-Err-load_set-clause-err : goal.returns-in-Err-load_set-clause-err
+returns-in-Err-load_set-clause-err g c = load_stops (run_words c.args.command.now) _ _ _ _ c.in-Err-load_set.fault c.load_stop.result c.in-Ok.ensures c.in-Err-load_set.ensures.fault c.load_stop.ensures
+
+pub returns-in-Ok-load_set-clause-reads : goal.returns-in-Ok-load_set-clause-reads
+returns-in-Ok-load_set-clause-reads g c = load_reads _ _ _ c.load_set.result _ _ c.in-Ok.ensures c.load_set.ensures.reads c.load_set.ensures.order c.load_set.ensures.tell
+
+pub returns-in-Ok-load_set-clause-ok : goal.returns-in-Ok-load_set-clause-ok
+returns-in-Ok-load_set-clause-ok g c =
+    units_ok (run_words c.args.command.now) _ (Rose (g.F.Files.faults c.args.files.now) (g.F.Files.faults c.load_set.new.files)) _ _
+    (loaded_from (run_words c.args.command.now) _ _ _ _ _ c.in-Ok.ensures c.as_slice.ensures c.in-Ok-load_set.ensures.loaded) c.prepare_units.result c.prepare_units.ensures.ok
+
+pub returns-in-Ok-load_set-clause-err : goal.returns-in-Ok-load_set-clause-err
+returns-in-Ok-load_set-clause-err g c =
+    units_err (run_words c.args.command.now) _ _ _ _
+    (loaded_from (run_words c.args.command.now) _ _ _ _ _ c.in-Ok.ensures c.as_slice.ensures c.in-Ok-load_set.ensures.loaded) c.prepare_units.result c.prepare_units.ensures.err

@@ -37,18 +37,18 @@ root-root-requires c = variable_in c.args.heap.now.changes c.args.base c.args.ne
 
 pub bind-requires : goal.bind-requires
 bind-requires c =
-    first_may c.args.heap.now.changes c.args.base c.args.next.now c.args.variable c.args.at c.requires (omega (arith, c.if-variable-next.false)) c.root-root.result
-    c.len-size.ensures.made c.root-root.ensures.place c.root-root.ensures.end c.root-root.ensures.value
+    first_may c.args.heap.now.changes c.args.base c.args.next.now c.args.variable c.args.at c.requires (omega (arith, c.if-variable-next.false)) c.root-root.result c.root-end.result
+    c.len-size.ensures.made c.root-root.ensures.place c.root-root.ensures.end c.root-root.ensures.value c.root-end.ensures.place c.root-end.ensures.value
 
 pub returns-clause-matched : goal.returns-clause-matched
 returns-clause-matched c =
     let h = c.args.heap.now.changes in
     subst (λ g. HasMatched h c.args.base c.args.at (Var c.args.variable ∷ []) unified.Same g.changes) (sym c.in_ok-bind.ensures.ok)
-    (first_matched h c.args.base c.args.next.now c.args.variable c.args.at c.requires (omega (arith, c.if-variable-next.false)) c.root-root.result (next_serial c.args.heap.now.last)
-    c.len-size.ensures.made c.root-root.ensures.place c.root-root.ensures.end c.root-root.ensures.value)
+    (first_matched h c.args.base c.args.next.now c.args.variable c.args.at c.requires (omega (arith, c.if-variable-next.false)) c.root-root.result c.root-end.result (next_serial c.args.heap.now.last)
+    c.len-size.ensures.made c.root-root.ensures.place c.root-root.ensures.end c.root-root.ensures.value c.root-end.ensures.value)
 
 pub returns-clause-met : goal.returns-clause-met
 returns-clause-met c = variable_first c.args.next.now c.args.variable (omega (arith, c.if-variable-next.false))
 
 pub returns-clause-later : goal.returns-clause-later
-returns-clause-later c = subst (GoesOn c.args.heap.now) (sym c.in_ok-bind.ensures.ok) (binds_on c.args.heap.now c.root-root.result c.args.at c.len-size.ensures.last)
+returns-clause-later c = subst (GoesOn c.args.heap.now) (sym c.in_ok-bind.ensures.ok) (binds_on c.args.heap.now c.root-root.result c.root-end.result c.len-size.ensures.last)

@@ -1,0 +1,5 @@
+mod KeyLaws
+mod PlaceLaws
+mod FoundLaws
+mod SelectedLaws
+mod ClashLaws

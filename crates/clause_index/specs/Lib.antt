@@ -1,0 +1,4 @@
+pub mod Keys
+pub mod Selected
+pub mod Lists
+pub mod Laws

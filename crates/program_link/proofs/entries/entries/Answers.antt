@@ -1,0 +1,22 @@
+use Rattle.std.proofs.Common.{◌≡◌, suc, ◌+◌, ◌++◌, drop, get_or, ap, sym, ◌∙◌, append_assoc, arith}
+use Rattle.std.specs.Prelude.{slice_get}
+use Rattle.std.proofs.lemmas.List.{at_drop_more}
+use Rattle.program_link.specs.HeldPrograms.{is_main_held, entries_by, entries_held}
+use Rattle.program_link.specs.declared.drafts.UnitPred.{UnitPred}
+use Rattle.program_link.proofs.entries.entries.Goals as goal
+
+pub loop-number-preserved : goal.loop-number-preserved
+loop-number-preserved c =
+    let sources = c.args.sources.now in
+    let normals = c.args.normals.now in
+    let preds = c.args.preds.now in
+    let n = c.loop-number.number in
+    let none : UnitPred = record { unit = 0; indicator = record { name = 0; arity = 0 } } in
+    let old = c.loop-number.entries in
+    let own = entries_by (is_main_held sources (get_or preds n none)) n (slice_get normals n) in
+    let same : n + 1 ≡ suc n = omega arith in
+    ap (λ es. es ++ entries_held sources normals (n + 1) (drop (n + 1) preds)) (c.in_ok-add_entries_of.ensures ∙ ap (λ b. old ++ entries_by b n (slice_get normals n)) c.is_main_export-wanted.ensures)
+    ∙ append_assoc old own (entries_held sources normals (n + 1) (drop (n + 1) preds))
+    ∙ ap (λ k. old ++ (own ++ entries_held sources normals k (drop (n + 1) preds))) same
+    ∙ ap (λ es. old ++ es) (sym (at_drop_more (entries_held sources normals n) preds n none c.loop-number-test.true))
+    ∙ c.loop-number.invariant

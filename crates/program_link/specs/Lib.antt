@@ -1,0 +1,10 @@
+pub mod FaultOrder
+pub mod NamedFaults
+pub mod Faults
+pub mod Drafts
+pub mod Programs
+pub mod Linked
+pub mod Laws
+pub mod Offers
+pub mod HeldFaults
+pub mod HeldPrograms

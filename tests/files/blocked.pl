@@ -1,0 +1,3 @@
+:- module(blocked,[p/0]).
+:- use_module(folder).
+p.

@@ -1,0 +1,4 @@
+:- module(lost,[p/0]).
+
+:- use_module(not_there).
+p.

@@ -1,2 +1,0 @@
-:- module(wrong,[p/1]).
-p(X) :- X = 1.
