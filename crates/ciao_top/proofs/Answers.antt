@@ -101,13 +101,13 @@ module _ (relied : Relied) where
 -- some answer
 
 -- a program in range has a least closed table
-abbrev SomeLeast : Type 0
+abbrev pub SomeLeast : Type 0
 SomeLeast = (program : Program) → IsProgram program → ((rows : List Facts) → Least program rows → ⊥) → ⊥
 
 -- the files that are reached from a main file have a program in range, and so has a query
-record InRange : Type 0 where
-  program : (held : Held) (main : Word) (program : Program) (ops : Operators) → HasProgram held main program ops → IsProgram program
-  query : (held : Held) (run : RunWords) (program : Program) (query : Term) → HasQuery held run program query → IsProgram program
+pub record InRange : Type 0 where
+  pub program : (held : Held) (main : Word) (program : Program) (ops : Operators) → HasProgram held main program ops → IsProgram program
+  pub query : (held : Held) (run : RunWords) (program : Program) (query : Term) → HasQuery held run program query → IsProgram program
 
 module _ (ends : (what : Tests) (program : Program) → Ends what program) (some_load : SomeLoad) where
   -- a main file whose files are not refused
