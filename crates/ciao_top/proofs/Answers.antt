@@ -105,7 +105,7 @@ abbrev SomeLeast : Type 0
 SomeLeast = (program : Program) → IsProgram program → ((rows : List Facts) → Least program rows → ⊥) → ⊥
 
 -- the files that are reached from a main file have a program in range, and so has a query
-record InRange : Type 0 where
+pub record InRange : Type 0 where
   program : (held : Held) (main : Word) (program : Program) (ops : Operators) → HasProgram held main program ops → IsProgram program
   query : (held : Held) (run : RunWords) (program : Program) (query : Term) → HasQuery held run program query → IsProgram program
 

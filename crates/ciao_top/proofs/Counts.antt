@@ -78,6 +78,10 @@ module _ (program : Program) (bound : ℕ) where
       let same : x.0 ≡ count = let sums = x.2 in omega (sums, arith) in
       subst (λ k. CountsTo program bound old k ending) same x.1
 
+-- the same, by another way to say it
+pub counted_as : (p q : Program) (b d : ℕ) (o n : Option Left) (count : ℕ) (x y : Counting) → p ≡ q → b ≡ d → x ≡ y → IsCounted p b o n count x → IsCounted q d o n count y
+counted_as p q b d o n count x y same bounds is a = subst (λ c. IsCounted q d o n count c) is (subst (λ k. IsCounted q k o n count x) bounds (subst (λ m. IsCounted m b o n count x) same a))
+
 -- the run of a query from its start
 pub run_counted : (program : Program) (query : Term) (bound : ℕ) (run : RunState) → Starts program query bound All run → (answers : ℕ) (ending : Ending) → CountsTo program bound (left_of run) answers ending → HasCounted program query bound answers ending
 run_counted program query bound run starts answers ending x =
