@@ -5,7 +5,7 @@ use Rattle.std.specs.Prelude.{None, Some}
 use Rattle.prog_data.specs.Values.{TypeValue}
 use Rattle.name_order.specs.Relations.{Order}
 use Rattle.type_domain.specs.Values.{term_name, all_fit, unless_apart, meet, meet_where, meet_parts}
-use Rattle.type_domain.specs.Meeting.{united, united_where, fitting, said_parts}
+use Rattle.type_domain.specs.Meeting.{united_where, fitting, said_parts}
 use Rattle.type_domain.proofs.LeqLaws.{fewer_consistent}
 
 false_if : (b : Bool) → (b ≡ true → ⊥) → b ≡ false
