@@ -148,9 +148,25 @@ line_begun line rest status old new g = record {
   grew = g.1;
 }
 
--- all lines
-pub lines_written : (text : Word) (status : ℕ) (before now : ℕ) (old new : Output) → before ≤ now → HasWritten (Only text status) (Only [] status) old new → Comes (Only text status) (Rose before now) old new status
-lines_written text status before now old new le a = comes_behind (Only text status) (Only [] status) before now now old new new status le a (Whole [] (refl, refl) (same_grown new))
+-- lines of which some are left: this one, and others
+module _ (text left line rest seen : Word) (status : ℕ) (same : left ≡ line ++ rest) (is : seen ≡ line) where
+  -- it was written
+  pub lines_more : (old mid new : Output) → HasWritten (Only text status) (Only left status) old mid → new ≡ with_piece mid seen → HasWritten (Only text status) (Only rest status) old new
+  lines_more old mid new a grew =
+      written_twice (Only text status) (Only (line ++ rest) status) (Only rest status) old mid new (subst (λ t. HasWritten (Only text status) (Only t status) old mid) same a)
+      (line_written line rest status mid new (subst (λ t. new ≡ with_piece mid t) is grew))
+
+  -- a prefix of it was written
+  pub lines_cut : (before middle after failed : ℕ) (old mid new : Output) → before ≤ middle → HasWritten (Only text status) (Only left status) old mid → ((failed ≡ 8) × Rose middle after) ⊎ (failed ≡ 9)
+      → GrewByFront mid new seen → Comes (Only text status) (Rose before after) old new failed
+  lines_cut before middle after failed old mid new le a why g =
+      comes_behind (Only text status) (Only (line ++ rest) status) before middle after old mid new failed le (subst (λ t. HasWritten (Only text status) (Only t status) old mid) same a)
+      (cut_short (Only (line ++ rest) status) middle after mid new failed why (line_begun line rest status mid new (subst (λ t. GrewByFront mid new t) is g)))
+
+-- none is left
+pub lines_written : (text left : Word) (status before now : ℕ) (old new : Output) → left ≡ [] → before ≤ now → HasWritten (Only text status) (Only left status) old new → Comes (Only text status) (Rose before now) old new status
+lines_written text left status before now old new same le a =
+    comes_behind (Only text status) (Only [] status) before now now old new new status le (subst (λ t. HasWritten (Only text status) (Only t status) old new) same a) (Whole [] (refl, refl) (same_grown new))
 
 -- the same lines
 pub only_as : (seen lines : List Word) (status : ℕ) (writing : Type 0) (old new : Output) (result : ℕ) → seen ≡ lines → Comes (Only (joined seen) status) writing old new result → Comes (Only (joined lines) status) writing old new result

@@ -83,3 +83,10 @@ pub run_counted : (program : Program) (query : Term) (bound : ℕ) (run : RunSta
 run_counted program query bound run starts answers ending x =
     let comes = subst (λ l. Continues (every_condition program) program bound l x.events x.tests ending) (same_some x.now starts.whole (left_of run) x.is_now starts.is) x.continues in
     record { events = x.events; runs = (x.tests, starts.forth x.events x.tests ending comes); answers_is = x.answers_is }
+
+-- by the same program and bound
+pub counted_of : (p q : Program) (b d : ℕ) (old new : Option Left) (before now : ℕ) → p ≡ q → b ≡ d → CountsOn p b old new before now → CountsOn q d old new before now
+counted_of p q b d old new before now same bound a = subst (λ x. CountsOn q x old new before now) bound (subst (λ x. CountsOn x b old new before now) same a)
+
+pub goes_of : (p q : Program) (b d : ℕ) (old new : Option Left) → p ≡ q → b ≡ d → GoesOn p b old new → GoesOn q d old new
+goes_of p q b d old new same bound a = subst (λ x. GoesOn q x old new) bound (subst (λ x. GoesOn x b old new) same a)
