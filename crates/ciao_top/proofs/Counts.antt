@@ -11,6 +11,7 @@ use Rattle.engine_moves.specs.declared.readings.Reading.TheVariants.{All}
 use Rattle.sld_engine.specs.declared.state.RunState.{RunState}
 use Rattle.sld_engine.specs.Runs.{left_of, Starts}
 use Rattle.ciao_top.specs.declared.summaries.Counting.{Counting}
+use Rattle.ciao_top.specs.declared.summaries.Counting.TheVariants as counting
 use Rattle.ciao_top.specs.Summaries.{answer_count}
 use Rattle.ciao_top.specs.InnerAnswers.{GoesOn}
 use Rattle.ciao_top.specs.InnerSummaries.{HasCounted, CountsTo, CountsOn, counting_behind, IsCounted}
@@ -84,9 +85,7 @@ run_counted program query bound run starts answers ending x =
     let comes = subst (λ l. Continues (every_condition program) program bound l x.events x.tests ending) (same_some x.now starts.whole (left_of run) x.is_now starts.is) x.continues in
     record { events = x.events; runs = (x.tests, starts.forth x.events x.tests ending comes); answers_is = x.answers_is }
 
--- by the same program and bound
-pub counted_of : (p q : Program) (b d : ℕ) (old new : Option Left) (before now : ℕ) → p ≡ q → b ≡ d → CountsOn p b old new before now → CountsOn q d old new before now
-counted_of p q b d old new before now same bound a = subst (λ x. CountsOn q x old new before now) bound (subst (λ x. CountsOn x b old new before now) same a)
-
-pub goes_of : (p q : Program) (b d : ℕ) (old new : Option Left) → p ≡ q → b ≡ d → GoesOn p b old new → GoesOn q d old new
-goes_of p q b d old new same bound a = subst (λ x. GoesOn q x old new) bound (subst (λ x. GoesOn x b old new) same a)
+-- a run that goes on, by the same program and bound
+pub counted_more : (p q : Program) (b d : ℕ) (old new : Option Left) (before now : ℕ) (c : Counting) → p ≡ q → b ≡ d → c ≡ counting.GoesOn now → IsCounted p b old new before c → GoesOn q d old new × CountsOn q d old new before now
+counted_more p q b d old new before now c same bound is a =
+    subst (λ x. GoesOn q x old new × CountsOn q x old new before now) bound (subst (λ x. GoesOn x b old new × CountsOn x b old new before now) same (subst (IsCounted p b old new before) is a))

@@ -19,9 +19,10 @@ use Rattle.ciao_top.specs.InnerAnswers.{DeviceGoesOn, Stops}
 use Rattle.ciao_top.specs.InnerSummaries.{IsGenerated, SummaryStops, HoldGenerated}
 
 -- a file that is added to none stands alone
-pub stands_alone : (before after : MemFiles) (text : Word) → ((name : Word) → files_held before name ≡ None)
-    → ((asked : Word) → files_held after asked ≡ with_file (files_held before) generated_file text asked) → (name : Word) → files_held after name ≡ (if bytes_eq generated_file name then Some text else None)
-stands_alone before after text none added name = added name ∙ ap (λ o. if bytes_eq generated_file name then Some text else o) (none name)
+pub stands_alone : (before after : MemFiles) (text seen : Word) → seen ≡ text → ((name : Word) → files_held before name ≡ None)
+    → ((asked : Word) → files_held after asked ≡ with_file (files_held before) generated_file seen asked) → (name : Word) → files_held after name ≡ (if bytes_eq generated_file name then Some text else None)
+stands_alone before after text seen same none added name =
+    added name ∙ ap (λ o. if bytes_eq generated_file name then Some seen else o) (none name) ∙ ap (λ t. if bytes_eq generated_file name then Some t else None) same
 
 -- a count that stays 0 did not rise
 pub none_rose : (before now : ℕ) → before ≡ 0 → now ≡ before → Rose before now → ⊥

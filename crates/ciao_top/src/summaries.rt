@@ -112,7 +112,8 @@ fn count_all(run: &mut Run<'_>) -> Result<Counted, NoMemory>
 {
     let mut answers = 0u64;
     'events: loop {
-        match count_next(run, answers)? {
+        let counting = count_next(run, answers)?;
+        match counting {
             Counting::GoesOn(more) => answers = more,
             Counting::Ends(ending) => return Ok(Counted { answers, ending }),
         }
