@@ -1,5 +1,5 @@
 // The commands.
-ghost use Rattle.std.specs.Prelude.{◌≡◌, ◌≤◌, ◌++◌, true, List, Option, Some};
+ghost use Rattle.std.specs.Prelude.{◌≡◌, ◌≤◌, ◌++◌, ℕ, true, List, Option, Some};
 ghost use Rattle.byte_io.specs.Outside.{Held, FileRead, Rose};
 ghost use Rattle.ciao_modules.specs.FileNames.{Word, is_main_file};
 ghost use Rattle.ciao_modules.specs.LoadReads.{new_reads};
@@ -83,8 +83,8 @@ pub(crate) fn check_file<F: Files, S: Sink>(
 /// Writes the summary of a generated module, and gives the status. No file is read, whatever files there are.
 pub(crate) fn generate<S: Sink>(alloc: Global, made: GenerateCommand, out: &mut S) -> u8
     requires { made.count ≤ most_generated }
-    ensures answered { (held : Option Held) (words : List Word) (old : List FileRead) (reading : Type 0) → AcceptedWords words ≡ Some (GenerateModule (generate_words made)) → Answered held words (new_reads old old)
-        reading (Rose (S.faults out.old) (S.faults out.new))
+    ensures answered { (held : Option Held) (words : List Word) (old : List FileRead) (failed failed' : ℕ) → AcceptedWords words ≡ Some (GenerateModule (generate_words made)) → Answered held words (new_reads old old)
+        (Rose failed failed') (Rose (S.faults out.old) (S.faults out.new))
         (output_of (S.written out.old) (S.taken out.old)) (output_of (S.written out.new) (S.taken out.new)) result }
     ensures sink { DeviceGoesOn (S.steady out.old) (S.steady out.new) (S.faults out.old) (S.faults out.new) }
 {

@@ -10,4 +10,4 @@ returns-clause-ok c =
 pub returns-clause-err : goal.returns-clause-err
 returns-clause-err c =
     generated_err (generate_words c.args.made) c.in_ok-files.files c.in_ok-files.ensures _ c.prepare.ensures.reads.told_agree
-    (Rose c.in_ok-files.files.faults c.prepare.new.files.faults) (steady (generate_words c.args.made) c.in_ok-files.files c.in_ok-files.ensures _ _ c.prepare.ensures.files) c.prepare.result c.prepare.ensures.err
+    (Rose c.in_ok-files.files.faults c.prepare.new.files.faults) (steady (generate_words c.args.made) c.in_ok-files.files c.in_ok-files.ensures c.prepare.new.files.faults c.prepare.new.files c.prepare.ensures.files) c.prepare.result c.prepare.ensures.err
