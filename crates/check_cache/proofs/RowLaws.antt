@@ -1,30 +1,23 @@
 -- Compounds whose parts belong to the names of a rule.
-use Rattle.std.proofs.Common.{◌≡◌, ℕ, suc, ◌+◌, ◌<◌, ◌≤◌, Bool, true, false, ◌&&◌, ◌||◌, List, [], ◌∷◌, length, map, refl, sym, ap, ◌∙◌, subst, arith}
+use Rattle.std.proofs.Common.{◌≡◌, ℕ, zero, suc, ◌+◌, ◌-◌, ◌<◌, ◌≤◌, Bool, true, false, ◌&&◌, List, [], ◌∷◌, ◌++◌, length, map, refl, sym, ap, ◌∙◌, subst, arith}
 use Rattle.std.specs.Prelude.{◌==◌, ◌↔◌, Contains}
 use Rattle.std.specs.List.{list_any}
-use Rattle.std.proofs.lemmas.Bool.{and_parts, eqb-true}
+use Rattle.std.proofs.lemmas.Bool.{and_parts, and_from, eqb-true, eq-eqb}
+use Rattle.term_core.specs.Sizes.{size, size_step, size_all}
+use Rattle.term_core.proofs.TermFolds.{fold-Node}
 use Rattle.term_core.specs.declared.terms.Term.{Term}
 use Rattle.term_core.specs.declared.terms.Term as term
 use Rattle.prog_data.specs.declared.grammars.Grammar.{Grammar}
 use Rattle.prog_data.specs.declared.grammars.Rule.{Rule}
 use Rattle.prog_data.specs.declared.grammars.Rule.TheVariants as rule
 use Rattle.prog_data.specs.Membership.{rules_of, belongs, Belongs, by_node, BelongEach, none, more}
-use Rattle.prog_data.proofs.Leaves.{In, here, later}
+use Rattle.prog_data.proofs.Leaves.{In, any_in}
 use Rattle.prog_data.proofs.MembershipLaws.{in_contains}
 use Rattle.term_heap.specs.declared.cells.Cell.TheVariants.{Node}
 use Rattle.term_heap.specs.Changes.{Change, cells_of, cell_at, cell_term, size_of, value_of, places, NamesBelow, IsMade}
 use Rattle.term_heap.proofs.ValueLaws.{fits, names_in}
 use Rattle.check_cache.specs.declared.rows.Row.{Row}
-use Rattle.check_cache.specs.Rows.{row_belongs, rule_passes}
-
--- a rule among those of which some passes
-found : {A : Type 0} (p : A → Bool) (xs : List A) → list_any p xs ≡ true → (x : A) × In x xs × (p x ≡ true)
-found p [] e = cc
-found {A} p (x ∷ xs) e = by (p x) refl e (found p xs)
-  where
-    by : (b : Bool) → p x ≡ b → (b || list_any p xs) ≡ true → (list_any p xs ≡ true → (y : A) × In y xs × (p y ≡ true)) → (y : A) × In y (x ∷ xs) × (p y ≡ true)
-    by true is e rest = (x, here, is)
-    by false is e rest = let r = rest e in (r.0, later r.1, r.2)
+use Rattle.check_cache.specs.Rows.{row_belongs, rule_passes, IsEnough}
 
 -- membership, as a test and as a relation
 abbrev pub Decided : Grammar → Type 0
@@ -53,9 +46,53 @@ by_rule g decided h t name row is (rule.Node f ns) i e =
 pub by_rules : (g : Grammar) → Decided g → (h : List Change) (name root : ℕ) (row : Row) → IsMade h → root < size_of h → cell_at (cells_of h) root ≡ Node row.name row.count row.first →
     list_any (rule_passes g h row) (rules_of g name) ≡ true → belongs g (value_of h root) name ≡ true
 by_rules g decided h name root row made lt is e =
-    let r = found (rule_passes g h row) (rules_of g name) e in
+    let r = any_in (rule_passes g h row) (rules_of g name) e in
     (decided (value_of h root) name).1 (by_rule g decided h (value_of h root) name row (fits h root made lt ∙ ap (cell_term (value_of h) root) is) r.0 r.1 r.2)
 
 -- the parts of a compound are there
 pub parts_there : (h : List Change) (root f count first : ℕ) → IsMade h → root < size_of h → cell_at (cells_of h) root ≡ Node f count first → first + count ≤ size_of h
 parts_there h root f count first made lt is = subst (NamesBelow (size_of h)) is (names_in h root made lt)
+
+-- each part is smaller
+
+in_row : (value : ℕ → Term) (first i count : ℕ) → i < count → size (value (first + i)) ≤ size_all (map value (places first count))
+in_row value first i zero lt = absurd (omega (arith, lt))
+in_row value first zero (suc count) lt = let same : size (value (first + 0)) ≡ size (value first) = ap (λ k. size (value k)) (omega arith) in omega (arith, same)
+in_row value first (suc i) (suc count) lt =
+    let rest = in_row value (suc first) i count (omega (arith, lt)) in
+    let same : size (value (first + suc i)) ≡ size (value (suc first + i)) = ap (λ k. size (value k)) (omega arith) in
+    omega (arith, rest, same)
+
+pub part_smaller : (h : List Change) (root f count first i : ℕ) → IsMade h → root < size_of h → cell_at (cells_of h) root ≡ Node f count first → i < count → size (value_of h (first + i)) < size (value_of h root)
+part_smaller h root f count first i made lt is part =
+    let whole : size (value_of h root) ≡ size_all (map (value_of h) (places first count)) + 1 = ap size (fits h root made lt ∙ ap (cell_term (value_of h) root) is) ∙ fold-Node ℕ size_step f (map (value_of h) (places first count)) in
+    let less = in_row (value_of h) first i count part in
+    omega (arith, whole, less)
+
+-- one place more
+pub row_whole : (g : Grammar) (h : List Change) (first : ℕ) (ns : List ℕ) (n : ℕ) → row_belongs g h first ns ≡ true → belongs g (value_of h (first + length ns)) n ≡ true → row_belongs g h first (ns ++ n ∷ []) ≡ true
+row_whole g h first [] n others last = and_from _ _ (subst (λ i. belongs g (value_of h i) n ≡ true) (omega arith) last) refl
+row_whole g h first (m ∷ ns) n others last =
+    let parts = and_parts (belongs g (value_of h first) m) (row_belongs g h (suc first) ns) others in
+    let same : first + suc (length ns) ≡ suc first + length ns = omega arith in
+    and_from _ _ parts.0 (row_whole g h (suc first) ns n parts.1 (subst (λ i. belongs g (value_of h i) n ≡ true) same last))
+
+one_more : {A : Type 0} (xs : List A) (x : A) → length (xs ++ x ∷ []) ≡ suc (length xs)
+one_more [] x = refl
+one_more (y ∷ xs) x = ap suc (one_more xs x)
+
+-- where the others belong, the last one is enough
+pub last_enough : (g : Grammar) (h : List Change) (first : ℕ) (ns others : List ℕ) (n : ℕ) → ns ≡ others ++ n ∷ [] → row_belongs g h first others ≡ true → belongs g (value_of h (first + (length ns - 1))) n ≡ true → row_belongs g h first ns ≡ true
+last_enough g h first ns others n is each last =
+    let many : length ns ≡ suc (length others) = ap length is ∙ one_more others n in
+    let place : first + (length ns - 1) ≡ first + length others = omega (arith, many) in
+    subst (λ ns. row_belongs g h first ns ≡ true) (sym is) (row_whole g h first others n each (subst (λ i. belongs g (value_of h i) n ≡ true) place last))
+
+pub rule_enough : (g : Grammar) (h : List Change) (row : Row) (r : Rule) (f : ℕ) (ns : List ℕ) (n : ℕ) → r ≡ rule.Node f ns → f ≡ row.name → length ns ≡ row.count → 0 < length ns → (belongs g (value_of h (row.first + (length ns - 1))) n ≡ true → row_belongs g h row.first ns ≡ true) → IsEnough g h row n (rule_passes g h row r)
+rule_enough g h row r f ns n is name count some last = (
+  omega (arith, count, some),
+  λ e.
+      let place : row.first + (row.count - 1) ≡ row.first + (length ns - 1) = omega (arith, count) in
+      subst (λ r. rule_passes g h row r ≡ true) (sym is)
+      (and_from _ _ (eq-eqb f row.name name) (and_from _ _ (eq-eqb (length ns) row.count count) (last (subst (λ i. belongs g (value_of h i) n ≡ true) place e)))),
+)

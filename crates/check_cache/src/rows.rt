@@ -1,11 +1,12 @@
 // Compounds, tested by the entries of their parts: so a list that grew at its front is not gone over again.
-ghost use Rattle.std.specs.Prelude.{◌≡◌, ◌<◌, ◌≤◌, ◌+◌, true, length};
+ghost use Rattle.std.specs.Prelude.{◌≡◌, ◌<◌, ◌≤◌, ◌+◌, ◌-◌, true, length, IfSome};
 ghost use Rattle.std.specs.List.{list_any};
 ghost use Rattle.prog_data.specs.GrammarRange.{IsGrammar};
 ghost use Rattle.prog_data.specs.Membership.{rules_of, belongs};
 ghost use Rattle.term_heap.specs.Changes.{size_of, value_of};
 ghost use Rattle.check_cache.specs.Truth.{AreTrue};
-ghost use Rattle.check_cache.specs.Rows.{row_belongs, rule_passes};
+ghost use Rattle.check_cache.specs.Remembered.{passes};
+ghost use Rattle.check_cache.specs.Rows.{row_belongs, rule_passes, IsEnough, IsLeft};
 
 use crate::cache::Cache;
 use crate::entries::Asked;
@@ -20,25 +21,6 @@ pub(crate) struct Row {
     pub(crate) name: u64,
     pub(crate) count: u64,
     pub(crate) first: u64,
-}
-
-// Whether an entry tells that the last of places in a row belongs to the last of these names.
-fn is_last_known(cache: &Cache, heap: &Heap, names: &[u64], first: u64) -> bool
-    requires { first + length names.now ≤ size_of heap.now.changes }
-{
-    let _size = heap.len();
-    if names.is_empty() {
-        return false;
-    }
-    let last = names.len() - 1;
-    let root = heap.root(first + last as u64);
-    cache.remembers(
-        heap,
-        Asked {
-            name: names[last],
-            cell: root,
-        },
-    )
 }
 
 // Whether the term of a place belongs to the name, by an entry where there is one.
@@ -57,13 +39,7 @@ fn part_belongs(cache: &Cache, heap: &Heap, grammar: &Grammar, name: u64, cell: 
 }
 
 // Whether the terms of places in a row belong to these names.
-fn parts_belong(
-    cache: &Cache,
-    heap: &Heap,
-    grammar: &Grammar,
-    names: &[u64],
-    first: u64,
-) -> bool
+fn parts_belong(cache: &Cache, heap: &Heap, grammar: &Grammar, names: &[u64], first: u64) -> bool
     requires grammar { IsGrammar grammar.now }
     requires row { first + length names.now ≤ size_of heap.now.changes }
     requires entries { AreTrue grammar.now heap.now cache.now.entries }
@@ -80,66 +56,138 @@ fn parts_belong(
     true
 }
 
-// Whether an entry and the other parts tell that a rule has the compound.
-fn rule_tells(cache: &Cache, heap: &Heap, grammar: &Grammar, rule: &Rule, row: Row) -> bool
+// The last of these names, where the places in a row but the last belong to the others.
+fn last_left(
+    cache: &Cache,
+    heap: &Heap,
+    grammar: &Grammar,
+    names: &[u64],
+    first: u64,
+) -> Option<u64>
+    requires grammar { IsGrammar grammar.now }
+    requires row { first + length names.now ≤ size_of heap.now.changes }
+    requires entries { AreTrue grammar.now heap.now cache.now.entries }
+    ensures some { IfSome result (λ name. 0 < length names.now) }
+    ensures last { IfSome result (λ name. belongs grammar.now (value_of heap.now.changes (first + (length names.now - 1))) name ≡ true → row_belongs grammar.now heap.now.changes first names.now ≡ true) }
+{
+    match names.split_last() {
+        None => None,
+        Some((last, others)) => {
+            if !parts_belong(cache, heap, grammar, others, first) {
+                return None;
+            }
+            Some(*last)
+        }
+    }
+}
+
+// The name that a rule asks of the last part of a compound, where the other parts belong to those that it asks of them.
+fn rule_asks(cache: &Cache, heap: &Heap, grammar: &Grammar, rule: &Rule, row: Row) -> Option<u64>
     requires grammar { IsGrammar grammar.now }
     requires row { row.first + row.count ≤ size_of heap.now.changes }
     requires entries { AreTrue grammar.now heap.now cache.now.entries }
-    ensures { result ≡ true → rule_passes grammar.now heap.now.changes row rule.now ≡ true }
+    ensures { IfSome result (λ name. IsEnough grammar.now heap.now.changes row name (rule_passes grammar.now heap.now.changes row rule.now)) }
 {
     match rule {
         Rule::Node(name, names) => {
             if *name != row.name {
-                return false;
+                return None;
             }
             if names.len() as u64 != row.count {
-                return false;
+                return None;
             }
-            if !is_last_known(cache, heap, names.as_slice(), row.first) {
-                return false;
+            match last_left(cache, heap, grammar, names.as_slice(), row.first) {
+                Some(last) => Some(last),
+                None => None,
             }
-            parts_belong(cache, heap, grammar, names.as_slice(), row.first)
         }
-        Rule::Basic(_) | Rule::Int(_) | Rule::Atom(_) | Rule::Unit(_) => false,
+        Rule::Basic(_) | Rule::Int(_) | Rule::Atom(_) | Rule::Unit(_) => None,
     }
 }
 
-// Whether one of the rules is told to have the compound.
-fn some_rule_tells(
-    cache: &Cache,
-    heap: &Heap,
-    grammar: &Grammar,
-    rules: &[Rule],
-    row: Row,
-) -> bool
+// The name that one of the rules asks of the last part of a compound.
+fn rules_ask(cache: &Cache, heap: &Heap, grammar: &Grammar, rules: &[Rule], row: Row) -> Option<u64>
     requires grammar { IsGrammar grammar.now }
     requires row { row.first + row.count ≤ size_of heap.now.changes }
     requires entries { AreTrue grammar.now heap.now cache.now.entries }
-    ensures { result ≡ true → list_any (rule_passes grammar.now heap.now.changes row) rules.now ≡ true }
+    ensures { IfSome result (λ name. IsEnough grammar.now heap.now.changes row name (list_any (rule_passes grammar.now heap.now.changes row) rules.now)) }
 {
     for rule in rules {
-        if rule_tells(cache, heap, grammar, rule, row) {
-            return true;
+        match rule_asks(cache, heap, grammar, rule, row) {
+            Some(name) => return Some(name),
+            None => {}
         }
     }
-    false
+    None
 }
 
-// Whether a rule of the name is told to have the compound.
-fn row_tells(cache: &Cache, heap: &Heap, grammar: &Grammar, name: u64, row: Row) -> bool
+// The name that a rule of a name asks of the last part of a compound.
+fn name_asks(cache: &Cache, heap: &Heap, grammar: &Grammar, name: u64, row: Row) -> Option<u64>
     requires grammar { IsGrammar grammar.now }
     requires row { row.first + row.count ≤ size_of heap.now.changes }
     requires entries { AreTrue grammar.now heap.now cache.now.entries }
-    ensures { result ≡ true → list_any (rule_passes grammar.now heap.now.changes row) (rules_of grammar.now name) ≡ true }
+    ensures { IfSome result (λ next. IsEnough grammar.now heap.now.changes row next (list_any (rule_passes grammar.now heap.now.changes row) (rules_of grammar.now name))) }
 {
     match grammar.rules.get(name as usize) {
-        Some(rules) => some_rule_tells(cache, heap, grammar, rules.as_slice(), row),
-        None => false,
+        Some(rules) => match rules_ask(cache, heap, grammar, rules.as_slice(), row) {
+            Some(next) => Some(next),
+            None => None,
+        },
+        None => None,
     }
 }
 
-/// Whether the term of a place belongs to the name; where an entry tells of the last part of a compound, the others alone
-/// are tested first.
+// What is left to ask of the last part of a compound.
+fn last_asked(cache: &Cache, heap: &Heap, grammar: &Grammar, asked: Asked) -> Option<Asked>
+    requires grammar { IsGrammar grammar.now }
+    requires cell { asked.cell < size_of heap.now.changes }
+    requires entries { AreTrue grammar.now heap.now cache.now.entries }
+    ensures { IfSome result (λ next. IsLeft grammar.now heap.now.changes asked next) }
+{
+    rule_law();
+    let _size = heap.len();
+    match heap.cell(asked.cell) {
+        Cell::Node(f, count, first) => {
+            let row = Row {
+                name: f,
+                count,
+                first,
+            };
+            match name_asks(cache, heap, grammar, asked.name, row) {
+                Some(name) => Some(Asked {
+                    name,
+                    cell: first + (count - 1),
+                }),
+                None => None,
+            }
+        }
+        Cell::Free | Cell::Ref(_) | Cell::Int(_) | Cell::Atom(_) => None,
+    }
+}
+
+// Whether an entry, or the end of the last parts, tells that what is asked is so.
+fn is_told(cache: &Cache, heap: &Heap, grammar: &Grammar, asked: Asked) -> bool
+    requires grammar { IsGrammar grammar.now }
+    requires cell { asked.cell < size_of heap.now.changes }
+    requires entries { AreTrue grammar.now heap.now cache.now.entries }
+    ensures { result ≡ true → passes grammar.now heap.now.changes asked ≡ true }
+{
+    check_law();
+    let mut left = asked;
+    'parts: loop {
+        left.cell = heap.root(left.cell);
+        if cache.remembers(heap, left) {
+            return true;
+        }
+        match last_asked(cache, heap, grammar, left) {
+            None => return belongs_at(grammar, heap, left.name, left.cell),
+            Some(next) => left = next,
+        }
+    }
+}
+
+/// Whether the term of a place belongs to the name. Of a compound the last part is asked first, and of that again, up to one
+/// of which an entry tells; all is tested where this does not tell.
 pub(crate) fn belongs_by_parts(
     cache: &Cache,
     heap: &Heap,
@@ -152,21 +200,14 @@ pub(crate) fn belongs_by_parts(
     requires entries { AreTrue grammar.now heap.now cache.now.entries }
     ensures { result ≡ belongs grammar.now (value_of heap.now.changes cell) name }
 {
-    rule_law();
-    let _size = heap.len();
     let root = heap.root(cell);
-    match heap.cell(root) {
-        Cell::Node(f, count, first) => {
-            let row = Row {
-                name: f,
-                count,
-                first,
-            };
-            if row_tells(cache, heap, grammar, name, row) {
+    match last_asked(cache, heap, grammar, Asked { name, cell: root }) {
+        Some(next) => {
+            if is_told(cache, heap, grammar, next) {
                 return true;
             }
         }
-        Cell::Free | Cell::Ref(_) | Cell::Int(_) | Cell::Atom(_) => {}
+        None => {}
     }
     belongs_at(grammar, heap, name, cell)
 }

@@ -1,7 +1,7 @@
 use Rattle.std.proofs.Common.{◌≡◌, true, drop}
 use Rattle.std.specs.List.{list_any}
 use Rattle.check_cache.specs.Rows.{rule_passes}
-use Rattle.check_cache.proofs.rows.some_rule_tells.Given as goal
+use Rattle.check_cache.proofs.rows.rules_ask.Given as goal
 
 abbrev pub invariant-loop-rule : goal.invariant-loop-rule
 invariant-loop-rule l =
