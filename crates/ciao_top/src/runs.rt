@@ -15,6 +15,7 @@ use prog_data::{Event, Program};
 use run_report::{ending_status, event_text};
 use sld_engine::{Reading, Run};
 use std::alloc::Global;
+use term_core::discard;
 
 // The status with which an event ends a run.
 fn event_status(event: &Event) -> Option<u8>
@@ -100,6 +101,14 @@ fn behind(event: &Event, limit: Option<u64>) -> Following
     }
 }
 
+// Lets an event go: the term of an answer may be of any depth.
+fn let_go(event: Event) {
+    match event {
+        Event::Answer(term) => discard(term),
+        Event::Out(_) | Event::End(_) | Event::Broken(_) => {}
+    }
+}
+
 // Writes the next event of a run that may still tell answers.
 fn write_next<S: Sink>(
     alloc: Global,
@@ -122,8 +131,15 @@ fn write_next<S: Sink>(
     match run.next() {
         Err(_) => Following::Ends(9),
         Ok(event) => match write_event(alloc, program, &event, out) {
-            Err(status) => Following::Ends(status),
-            Ok(()) => behind(&event, limit),
+            Err(status) => {
+                let_go(event);
+                Following::Ends(status)
+            }
+            Ok(()) => {
+                let following = behind(&event, limit);
+                let_go(event);
+                following
+            }
         },
     }
 }

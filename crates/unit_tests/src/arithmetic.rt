@@ -74,14 +74,14 @@ fn operations(rt: HostRuntime) {
 }
 
 // What stands in a row for the value of a term.
-fn value(term: &Term) -> i64 {
-    match eval(term) {
+fn value(alloc: Global, term: &Term) -> Result<i64, NoMemory> {
+    Ok(match eval(alloc, term)? {
         Ok(n) => n,
         Err(ArithKind::Overflow) => OVERFLOW,
         Err(ArithKind::ZeroDivisor) => ZERO_DIVISOR,
         Err(ArithKind::Unbound) => UNBOUND,
         Err(ArithKind::NotNumber) => NOT_NUMBER,
-    }
+    })
 }
 
 // Terms and their values.
@@ -107,7 +107,7 @@ fn value_of(alloc: Global, text: &str) -> Result<i64, NoMemory> {
     let mut names = Names::new(alloc)?;
     match term_of(alloc, &mut names, text)? {
         None => Ok(UNREAD),
-        Some(term) => Ok(value(&term)),
+        Some(term) => value(alloc, &term),
     }
 }
 
@@ -131,11 +131,12 @@ fn values(rt: HostRuntime) -> Result<(), NoMemory> {
 }
 
 #[test]
-fn an_operation_on_nothing(rt: HostRuntime) {
+fn an_operation_on_nothing(rt: HostRuntime) -> Result<(), NoMemory> {
     assert_eq!(rt;
-        value(&Term::Node(PLUS, Items::new(rt.alloc()))),
+        value(rt.alloc(), &Term::Node(PLUS, Items::new(rt.alloc())))?,
         NOT_NUMBER
     );
+    Ok(())
 }
 
 // So many signs before 1.
@@ -149,8 +150,8 @@ fn nested(alloc: Global, depth: u64) -> Result<Term, NoMemory> {
 
 #[test]
 fn a_deep_term(rt: HostRuntime) -> Result<(), NoMemory> {
-    let term = nested(rt.alloc(), 10_000)?;
-    assert_eq!(rt; value(&term), 1);
+    let term = nested(rt.alloc(), 100_000)?;
+    assert_eq!(rt; value(rt.alloc(), &term)?, 1);
     discard(term);
     Ok(())
 }

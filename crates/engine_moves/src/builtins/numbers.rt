@@ -41,15 +41,15 @@ impl Comparison {
     }
 }
 
-// The value of the term of a place, as a term. It follows the term by recursion, and so takes stack for its depth.
+// The value of the term of a place, as a term.
 fn decoded_value(alloc: Global, heap: &Heap, place: u64) -> Result<Result<i64, ArithKind>, NoMemory>
     requires { place < size_of heap.now.changes }
     ensures { IfOk result (λ number. number ≡ value (value_of heap.now.changes place)) }
 {
     let term = heap.decode(alloc, place)?;
-    let number = eval(&term);
+    let number = eval(alloc, &term);
     discard(term);
-    Ok(number)
+    Ok(number?)
 }
 
 // The value of the term of a place, or its first fault. A number is taken as it is.
