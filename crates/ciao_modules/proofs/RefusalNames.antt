@@ -1,7 +1,7 @@
 -- The file of a refusal is one of the names that are known when that file is read, so its text is one.
 use Rattle.std.proofs.Common.{◌≡◌, ◌<◌, ◌≤◌, ◌+◌, ℕ, zero, suc, Bool, true, false, List, [], ◌∷◌, ◌++◌, length, Option, Some, None, refl, sym, ap, ◌∙◌, subst, arith}
-use Rattle.std.specs.Prelude.{⊤, slice_get, ◌&&◌, nat_le, if◌then◌else◌, IfSome, bytes_eq}
-use Rattle.std.specs.List.{AllByRecursion, list_any, position_or_len}
+use Rattle.std.specs.Prelude.{⊤, ◌&&◌, nat_le, if◌then◌else◌, IfSome, bytes_eq}
+use Rattle.std.specs.List.{AllByRecursion, list_any}
 use Rattle.std.proofs.lemmas.List.{length-append}
 use Rattle.std.proofs.lemmas.List.Sums.{prefix_len-le-length}
 use Rattle.byte_io.specs.Outside.{Held}
@@ -21,8 +21,8 @@ use Rattle.ciao_modules.specs.Directives.{packages_of, asked}
 use Rattle.ciao_modules.specs.Drafts.{Followed, Goes, Stops, Directed, Done, Fails, used_with, followed_by, then_directed, directives_from}
 use Rattle.ciao_modules.specs.Headings.{heading}
 use Rattle.ciao_modules.specs.FilesRead.{opening, opened, drafted_with, drafted, file_with}
-use Rattle.ciao_modules.specs.Loaded.{names_before, file_number, module_file, module_name, refused_at, text_fault, RefusesText, Unread, Misdirected, ReadsFile, RefusesFile, Missing, TooLarge, Bad, Progress, LoadsTo, none, next, start_names, start, LoadRefused}
-use Rattle.ciao_modules.proofs.Lists.{all_append, all_at, all_weaker, prefix_then, prefix_length, place_within}
+use Rattle.ciao_modules.specs.Loaded.{names_before, file_number, module_file, module_name, text_fault, RefusesText, Unread, Misdirected, ReadsFile, RefusesFile, Missing, TooLarge, Bad, Progress, LoadsTo, none, next, start, LoadRefused}
+use Rattle.ciao_modules.proofs.Lists.{all_append, all_at, all_weaker, prefix_length, place_within}
 use Rattle.ciao_modules.proofs.OneOutcome.{one_load_refusal, one_refused_place}
 use Rattle.ciao_modules.specs.declared.units.Unit.{Unit}
 use Rattle.ciao_modules.specs.declared.units.Export.{Export}
