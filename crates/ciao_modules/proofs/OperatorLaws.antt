@@ -1,5 +1,5 @@
 -- The operators of each unit can be made.
-use Rattle.std.proofs.Common.{◌≡◌, ℕ, List, [], ◌∷◌, refl, sym, ap, subst}
+use Rattle.std.proofs.Common.{◌≡◌, ℕ, List, refl, sym, ap, subst}
 use Rattle.std.specs.List.{AllByRecursion}
 use Rattle.byte_io.specs.Outside.{Held}
 use Rattle.term_core.specs.declared.operators.Operators.{Operators}

@@ -1,7 +1,7 @@
 -- The file of a refusal is one of the names that are known when that file is read, so its text is one.
 use Rattle.std.proofs.Common.{◌≡◌, ◌<◌, ◌≤◌, ◌+◌, ℕ, zero, suc, Bool, true, false, List, [], ◌∷◌, ◌++◌, length, Option, Some, None, refl, sym, ap, ◌∙◌, subst, arith}
-use Rattle.std.specs.Prelude.{⊤, slice_get, ◌&&◌, nat_le, if◌then◌else◌, IfSome, bytes_eq}
-use Rattle.std.specs.List.{AllByRecursion, list_any, position_or_len}
+use Rattle.std.specs.Prelude.{⊤, ◌&&◌, nat_le, if◌then◌else◌, IfSome, bytes_eq}
+use Rattle.std.specs.List.{AllByRecursion, list_any}
 use Rattle.std.proofs.lemmas.List.{length-append}
 use Rattle.std.proofs.lemmas.List.Sums.{prefix_len-le-length}
 use Rattle.byte_io.specs.Outside.{Held}
@@ -21,8 +21,8 @@ use Rattle.ciao_modules.specs.Directives.{packages_of, asked}
 use Rattle.ciao_modules.specs.Drafts.{Followed, Goes, Stops, Directed, Done, Fails, used_with, followed_by, then_directed, directives_from}
 use Rattle.ciao_modules.specs.Headings.{heading}
 use Rattle.ciao_modules.specs.FilesRead.{opening, opened, drafted_with, drafted, file_with}
-use Rattle.ciao_modules.specs.Loaded.{names_before, file_number, module_file, module_name, refused_at, text_fault, RefusesText, Unread, Misdirected, ReadsFile, RefusesFile, Missing, TooLarge, Bad, Progress, LoadsTo, none, next, start_names, start, LoadRefused}
-use Rattle.ciao_modules.proofs.Lists.{all_append, all_at, all_weaker, prefix_then, prefix_length, place_within}
+use Rattle.ciao_modules.specs.Loaded.{names_before, file_number, module_file, module_name, text_fault, RefusesText, Unread, Misdirected, ReadsFile, RefusesFile, Missing, TooLarge, Bad, Progress, LoadsTo, none, next, start, LoadRefused}
+use Rattle.ciao_modules.proofs.Lists.{all_append, all_at, all_weaker, prefix_length, place_within}
 use Rattle.ciao_modules.proofs.OneOutcome.{one_load_refusal, one_refused_place}
 use Rattle.ciao_modules.specs.declared.units.Unit.{Unit}
 use Rattle.ciao_modules.specs.declared.units.Export.{Export}
@@ -43,7 +43,7 @@ use Rattle.ciao_modules.specs.declared.reading.FileOutcome.TheVariants as read
 -- names
 
 -- a text is among the names that it is added to
-placed_text : (text : Word) (names : List Word) → place_of text names < length (with_text names text)
+pub placed_text : (text : Word) (names : List Word) → place_of text names < length (with_text names text)
 placed_text text names = by (list_any (bytes_eq text) names) refl
   where
     by : (b : Bool) → list_any (bytes_eq text) names ≡ b → place_of text names < length (if b then names else names ++ text ∷ [])
@@ -53,7 +53,7 @@ placed_text text names = by (list_any (bytes_eq text) names) refl
         at_most : place_of text names ≤ length names
         at_most = prefix_len-le-length _ names
 
-longer : (text : Word) (names : List Word) → length names ≤ length (with_text names text)
+pub longer : (text : Word) (names : List Word) → length names ≤ length (with_text names text)
 longer text names = by (list_any (bytes_eq text) names)
   where
     by : (b : Bool) → length names ≤ length (if b then names else names ++ text ∷ [])
@@ -173,7 +173,7 @@ text_told names queue used own file bytes refusal (Unread found is e) = told_fil
 text_told names queue used own file bytes refusal (Misdirected after source has wrong is e) = ap (λ r. r.place.file) e
 
 module _ (held : Held) (folder : Word) (names : List Word) (queue : List Member) (member : Member) where
-  file_known : file_number names member.used < length (names_before names member.used)
+  pub file_known : file_number names member.used < length (names_before names member.used)
   file_known = placed_text (module_file names member.used) names
 
   refusal_known : (refusal : Refusal) → member.place.file < length names → RefusesFile held folder names queue member refusal → refusal.place.file < length (names_before names member.used)

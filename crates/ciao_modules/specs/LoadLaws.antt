@@ -1,13 +1,15 @@
 -- What is claimed of loads: for given files, names and a main file there is one outcome.
 -- The headline does not rest on this file.
-use Rattle.std.specs.Prelude.{◌≡◌, List}
+use Rattle.std.specs.Prelude.{◌≡◌, List, length}
 use Rattle.byte_io.specs.Outside.{Held}
 use Rattle.std.specs.List.{AllByRecursion}
-use Rattle.term_core.specs.Names.{name_text}
+use Rattle.term_core.specs.Names.{fixed_names, name_text}
+use Rattle.term_core.specs.Lists.{IsPrefix}
 use Rattle.term_core.specs.Standard.{IsMade}
 use Rattle.prog_data.specs.declared.refusals.Refusal.{Refusal}
 use Rattle.ciao_modules.specs.FileNames.{Word}
 use Rattle.ciao_modules.specs.Loaded.{Loaded, LoadRefused}
+use Rattle.ciao_modules.specs.UnitRanges.{AreUnitsInRange}
 use Rattle.ciao_modules.specs.declared.units.Unit.{Unit}
 
 -- the units are the same, and the names at last
@@ -34,3 +36,7 @@ OperatorsAreMade = (held : Held) (main : Word) (before after : List Word) (units
 -- there are units or a first refusal: it is not so that there is neither
 abbrev pub SomeLoad : Type 0
 SomeLoad = (held : Held) (main : Word) (before : List Word) → ((after : List Word) (units : List Unit) → Loaded held main before after units → ⊥) → ((after : List Word) (refusal : Refusal) → LoadRefused held main before after refusal → ⊥) → ⊥
+
+-- a load that begins with the fixed names ends with names that begin with them, and its units are in range of these
+abbrev pub LoadedInRange : Type 0
+LoadedInRange = (held : Held) (main : Word) (after : List Word) (units : List Unit) → Loaded held main fixed_names after units → IsPrefix fixed_names after × AreUnitsInRange (length after) units

@@ -1,8 +1,9 @@
 // The laws of loads.
-ghost use Rattle.ciao_modules.specs.LoadLaws.{OneLoad, NoLoadRefused, OneLoadRefusal, OneRefusalName, OperatorsAreMade, SomeLoad};
+ghost use Rattle.ciao_modules.specs.LoadLaws.{OneLoad, NoLoadRefused, OneLoadRefusal, OneRefusalName, OperatorsAreMade, SomeLoad, LoadedInRange};
 
-use ciao_reader::{every_text_law, one_outcome_law};
+use ciao_reader::{every_text_law, in_range_law, one_outcome_law};
 use ciao_tokens::named_tokens_law;
+use term_core::ranges_law;
 
 /// For given files a main file has one list of units or one first refusal, and not both.
 pub fn one_load_law()
@@ -31,4 +32,13 @@ pub fn some_load_law()
     ensures { SomeLoad }
 {
     every_text_law();
+}
+
+/// Units of a load that begins with the fixed names are in range of its names at last, with which the fixed names begin.
+pub fn loaded_in_range_law()
+    ensures { LoadedInRange }
+{
+    named_tokens_law();
+    in_range_law();
+    ranges_law();
 }

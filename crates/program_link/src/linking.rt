@@ -14,18 +14,17 @@ ghost use Rattle.program_link.specs.Faults.{all_faults, type_faults};
 ghost use Rattle.program_link.specs.Linked.{Linked, file_at, refusal_of, too_many, linked, IsLinkFault};
 
 use crate::faults::{Fault, least_fault, type_fault};
+use crate::laws::linked_in_range_law;
 use crate::outcomes::LinkFault;
 use crate::programs::{ProgramFault, program_of};
-use assertion_normal::{normals_in_range_law, ranges_grow_law};
-use body_code::compiled_in_range_law;
 use ciao_modules::Unit;
 use prog_data::{Grammar, Place, Program, Refusal, RefusalKind};
-use regtype_grammar::{TypeFault, TypeModule, grammar_of, grammars_in_range_law};
+use regtype_grammar::{TypeFault, TypeModule, grammar_of};
 use std::alloc::Global;
 use term_core::Names;
 use unit_scopes::{
-    Setting, Source, discard_modules, discard_sources, files_in_range_law, settings_of, sources_of,
-    type_modules, types_seen_law,
+    Setting, Source, discard_modules, discard_sources, settings_of, sources_of, type_modules,
+    types_seen_law,
 };
 
 // The file of the unit at a place.
@@ -185,12 +184,7 @@ pub fn link(alloc: Global, names: Names, units: &[Unit]) -> Result<Program, Link
     ensures as_linked { IfOk result IsLinked }
 {
     let _ = names.len(); // for the proof
-    files_in_range_law();
-    types_seen_law();
-    grammars_in_range_law();
-    compiled_in_range_law();
-    ranges_grow_law();
-    normals_in_range_law();
+    linked_in_range_law();
     let sources = sources_of(alloc, &names, units)?;
     let result = link_sources(alloc, names, units, sources.as_slice());
     discard_sources(sources);
