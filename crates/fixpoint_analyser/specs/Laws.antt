@@ -7,6 +7,7 @@ use Rattle.prog_data.specs.declared.programs.Clause.{Clause}
 use Rattle.prog_data.specs.declared.programs.Entry.{Entry}
 use Rattle.prog_data.specs.declared.programs.Program.{Program}
 use Rattle.prog_data.specs.Goals.{pred_of}
+use Rattle.prog_data.specs.Programs.{IsProgram}
 use Rattle.name_order.specs.Relations.{Order, order}
 use Rattle.goal_transfer.specs.Transfer.{Exits, Values, ReachedCall, run_goal}
 use Rattle.goal_transfer.specs.Conditions.{all_set}
@@ -55,3 +56,7 @@ pub record TableStays (program : Program) : Type 0 where
   pub start : IsTable program (bottom program)
   pub call : (rows : List Facts) → IsTable program rows → (c : ReachedCall) → CallGiven program (order program.grammar) c → IsTable program (with_call rows c)
   pub exit : (rows : List Facts) → IsTable program rows → (p : ℕ) → p < length program.preds → IsTrue (facts_of rows p).reached → (es : Option (List TypeValue)) → ExitGiven program (order program.grammar) p es → IsTable program (with_exit rows p es)
+
+-- each program in range has a least closed table
+abbrev pub SomeLeast : Type 0
+SomeLeast = (program : Program) → IsProgram program → (rows : List Facts) × Least program rows
