@@ -9,15 +9,19 @@ use Rattle.prog_data.specs.declared.events.Event.{Event}
 use Rattle.prog_data.specs.declared.events.Ending.{Ending}
 use Rattle.prog_data.specs.Goals.{called_by}
 use Rattle.prog_data.specs.Programs.{with_names, IsProgram}
+use Rattle.prog_data.specs.RangeLaws.{RangesAreKept}
+use Rattle.ciao_tokens.specs.Ranges.{TokensAreNamed}
 use Rattle.machine_model.specs.Tests.{Tests, every_condition}
 use Rattle.machine_model.specs.Run.{Run, RunsFrom, start_of}
 use Rattle.machine_model.specs.Laws.{Ends}
 use Rattle.goal_transfer.specs.Tables.{Facts, Least}
+use Rattle.fixpoint_analyser.specs.Laws.{SomeLeast}
 use Rattle.goal_transfer.specs.Statuses.{statuses_of}
 use Rattle.ciao_modules.specs.FileNames.{Word}
 use Rattle.ciao_modules.specs.Loaded.{Loaded}
-use Rattle.ciao_modules.specs.LoadLaws.{SomeLoad}
+use Rattle.ciao_modules.specs.LoadLaws.{SomeLoad, LoadedInRange}
 use Rattle.ciao_modules.specs.declared.units.Unit.{Unit}
+use Rattle.program_link.specs.Laws.{LinkedInRange}
 use Rattle.program_link.specs.Linked as link
 use Rattle.run_report.specs.Refusals.{refusal_text}
 use Rattle.run_report.specs.Report.{report_lines, report_status}
@@ -35,6 +39,7 @@ use Rattle.ciao_top.specs.Summaries.{answer_count, summary_lines, SummaryAnswers
 use Rattle.ciao_top.specs.Relied.{Relied}
 use Rattle.ciao_top.specs.Answers.{CommandAnswers, Defined, Refused, Answers, OneAnswer, SomeAnswer}
 use Rattle.ciao_top.proofs.LeastLaws.{one_statuses}
+use Rattle.ciao_top.proofs.ProgramRanges.{program_range, query_range}
 use Rattle.ciao_top.proofs.Refusals.{same_some, one_program, one_prepared, one_refusal, words_not_refused}
 
 -- one answer
@@ -100,15 +105,6 @@ module _ (relied : Relied) where
 
 -- some answer
 
--- a program in range has a least closed table
-abbrev SomeLeast : Type 0
-SomeLeast = (program : Program) → IsProgram program → ((rows : List Facts) → Least program rows → ⊥) → ⊥
-
--- the files that are reached from a main file have a program in range, and so has a query
-pub record InRange : Type 0 where
-  program : (held : Held) (main : Word) (program : Program) (ops : Operators) → HasProgram held main program ops → IsProgram program
-  query : (held : Held) (run : RunWords) (program : Program) (query : Term) → HasQuery held run program query → IsProgram program
-
 module _ (ends : (what : Tests) (program : Program) → Ends what program) (some_load : SomeLoad) where
   -- a main file whose files are not refused
   module _ (held : Held) (main : Word) (refused : (line : Word) → FilesRefused held main line → ⊥) where
@@ -141,7 +137,10 @@ module _ (ends : (what : Tests) (program : Program) → Ends what program) (some
         refused reason.QueryUnread (Unread program ops has (λ names query read.
         called_some (with_names names program) query (record { before = program; ops = ops; has = has; names = names; read = read; program_is = refl }) (called_by (with_names names program) query) refl)))
 
-  module _ (some_least : SomeLeast) (in_range : InRange) where
+  module _ (some_least : SomeLeast) (loaded : LoadedInRange) (linked : LinkedInRange) (kept : RangesAreKept) (named : TokensAreNamed) where
+    some_table : (program : Program) → IsProgram program → ((rows : List Facts) → Least program rows → ⊥) → ⊥
+    some_table program range never = let found = some_least program range in never found.0 found.1
+
     -- a command that is not refused answers
     command_some : (held : Held) (command : Command) → ((why : Reason) → CommandRefused held command why → ⊥) → ((text : Word) (status : ℕ) → CommandAnswers held command text status → ⊥) → ⊥
     command_some held (RunQuery run) refused never =
@@ -157,7 +156,7 @@ module _ (ends : (what : Tests) (program : Program) → Ends what program) (some
         }))
     command_some held (CheckFile file) refused never =
         program_some held file (λ line a. refused (reason.OfFiles line) a) (λ program ops has.
-        some_least program (in_range.program held file program ops has) (λ rows least.
+        some_table program (program_range loaded linked held file program ops has) (λ rows least.
         never (joined (report_lines program (statuses_of program rows))) (report_status program (statuses_of program rows))
         (record {
           program = program;
@@ -167,7 +166,7 @@ module _ (ends : (what : Tests) (program : Program) → Ends what program) (some
         })))
     command_some held (GenerateModule made) refused never =
         query_some (generated_files made) (generated_run made) refused (λ program query has meets.
-        some_least program (in_range.query (generated_files made) (generated_run made) program query has) (λ rows least.
+        some_table program (query_range loaded linked kept named (generated_files made) (generated_run made) program query has) (λ rows least.
         let found = ends (every_condition program) program made.steps (start_of meets.pred query) in
         never (joined (summary_lines made program (statuses_of program rows) (answer_count found.0) found.2)) (ending_status found.2)
         (record {

@@ -13,3 +13,4 @@ mod RunEnds
 mod RunTexts
 mod Statuses
 mod WordLaws
+mod ProgramRanges

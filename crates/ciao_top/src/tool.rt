@@ -9,8 +9,12 @@ use crate::relied::relied_law;
 use crate::stops::{Reason, Stop};
 use crate::words::{Command, read_words};
 use byte_io::{Files, Sink};
-use ciao_modules::some_load_law;
+use ciao_modules::{loaded_in_range_law, some_load_law};
+use ciao_tokens::named_tokens_law;
+use fixpoint_analyser::some_least_law;
 use machine_model::ends_law;
+use prog_data::program_ranges_law;
+use program_link::linked_in_range_law;
 use std::alloc::Global;
 use std::thread::Threads;
 
@@ -66,6 +70,11 @@ pub fn some_answer_law()
 {
     ends_law();
     some_load_law();
+    some_least_law();
+    loaded_in_range_law();
+    linked_in_range_law();
+    program_ranges_law();
+    named_tokens_law();
 }
 
 /// Without a rise of a count the text and the status are the defined ones, or memory was wanted.
