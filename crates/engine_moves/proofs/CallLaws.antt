@@ -7,13 +7,20 @@ use Rattle.prog_data.specs.declared.events.Ending.{Ending}
 use Rattle.prog_data.specs.declared.events.Ending.TheVariants as ending
 use Rattle.prog_data.specs.declared.events.Event.TheVariants.{Broken}
 use Rattle.prog_data.specs.declared.goals.Goal as goal
+use Rattle.prog_data.specs.declared.goals.Goal.TheVariants.{outs-Call}
 use Rattle.prog_data.specs.declared.programs.Clause.{Clause}
 use Rattle.prog_data.specs.declared.programs.Place.{Place}
+use Rattle.prog_data.specs.declared.programs.Program.{Program}
 use Rattle.prog_data.specs.Goals.{pred_of}
-use Rattle.machine_model.specs.State.{Call, Choice, Failed, Going}
+use Rattle.machine_model.specs.State.{Call, Choice, Failed, State, Phase, Going, Over, Trace}
 use Rattle.machine_model.specs.Step.{tries, with_mark, mark_height}
-use Rattle.machine_model.specs.LeanerLaws.{LeanerStatesAreFound, call_above}
-use Rattle.term_heap.specs.Changes.{size_of, value_of, places}
+use Rattle.machine_model.specs.Leaner.{IsLeaner}
+use Rattle.machine_model.specs.LeanerLaws.{LeanerStatesAreFound, chosen, call_above, after_call}
+use Rattle.clause_index.specs.declared.keys.Key.{Key}
+use Rattle.clause_index.specs.Keys.{first_key}
+use Rattle.clause_index.specs.Selected.{can_match}
+use Rattle.clause_index.specs.Laws.{SelectsInOrder, LeftOutClash}
+use Rattle.term_heap.specs.Changes.{size_of, value_of}
 use Rattle.prop_check.specs.Places.{row_at}
 use Rattle.engine_state.specs.declared.engine.Engine as code
 use Rattle.engine_state.specs.declared.findings.Counted.{Counted}
@@ -23,13 +30,14 @@ use Rattle.engine_state.specs.declared.points.Alternative.TheVariants as code_al
 use Rattle.engine_state.specs.declared.stages.Stage.TheVariants as stage
 use Rattle.engine_state.specs.Engines.{Pending, Retries, frame_with, alternative_choices, as_state}
 use Rattle.engine_state.specs.Views.{row_of, as_links, as_exit, as_alternative}
+use Rattle.engine_state.specs.Selections.{selected_at, clauses_left}
 use Rattle.engine_state.specs.Notes.{IsRowWithin, NotesStay}
 use Rattle.engine_state.specs.Moments.{MomentsStay, MomentsGive}
 use Rattle.engine_state.specs.PointMoves.{PointsPushed}
-use Rattle.engine_state.specs.Tested.{tested_trace}
 use Rattle.engine_state.specs.Findings.{IsAdded, HasAdded}
-use Rattle.engine_state.specs.Moves.{Makes, MovesCompose}
-use Rattle.engine_state.specs.StepsMade.{found_at_call, CallsMake}
+use Rattle.engine_state.specs.Moves.{MovesCompose}
+use Rattle.engine_state.specs.StepsMade.{found_at_call, after_calls_tests, CallsMake}
+use Rattle.engine_state.specs.MoveLaws.{CallsMove}
 use Rattle.engine_state.specs.Stages.{as_engine, choices_at, tasks_at, frame_now, IsKept, IsWhole}
 use Rattle.engine_state.specs.Turns.{GoesTo}
 use Rattle.engine_moves.specs.declared.calls.Noted.{Noted}
@@ -39,10 +47,11 @@ use Rattle.engine_moves.specs.declared.readings.Reading.{Reading}
 use Rattle.engine_moves.specs.Readings.{tests_by}
 use Rattle.engine_moves.specs.Turned.{HasTurned}
 use Rattle.engine_moves.specs.Looking.{looks_by, IsNoted}
-use Rattle.engine_moves.specs.Calling.{terms_at, call_state, looked_at, noted_at, HasNoted, HasMarked, call_now, after_tests_at, HasCalled}
+use Rattle.engine_moves.specs.Calling.{terms_at, call_state, looked_at, noted_at, HasNoted, HasMarked, call_now, matches_at, chosen_now, after_tests_at, HasCalled}
+use Rattle.engine_moves.proofs.ChoosingLaws.{all_left, others_out}
 use Rattle.engine_moves.proofs.GoingOn.{goes_on, stays, looked_same, noted_same}
 use Rattle.engine_moves.proofs.NotesTaken.{added_row, goes_noted}
-use Rattle.engine_moves.proofs.TurnLaws.{over_turn, ended_turn, open_turn}
+use Rattle.engine_moves.proofs.TurnLaws.{over_turn, ended_turn, open_moved}
 
 -- notes
 
@@ -81,7 +90,7 @@ not_marked e pred row kept within none =
     subst (λ conds. HasMarked e pred conds None e) (sym empty) (record { goes = stays e (length e.links.items) kept (omega arith); mark_is = refl })
 
 pub is_marked : PointsPushed → (e new : code.Engine) (pred : ℕ) (row : Row) (height : ℕ) → IsRowWithin (length e.notes.items) row → (row.count ≡ 0 → ⊥) → height ≡ length (choices_at e) →
-    GoesTo e (length e.links.items) (alternative_choices (value_of e.heap.changes) (as_links e.notes.items e.links.items) e.query (as_alternative e.notes.items (code_alternative.Marks pred row false)) ++ choices_at e) new →
+    GoesTo e (length e.links.items) (alternative_choices (value_of e.heap.changes) (as_links e.notes.items e.links.items) e.query (as_alternative e.index e.notes.items (code_alternative.Marks pred row false)) ++ choices_at e) new →
     HasMarked e pred (row_of e.notes.items row) (Some height) new
 is_marked pushed e new pred row height within some is goes =
     let conds = row_of e.notes.items row in
@@ -93,28 +102,30 @@ is_marked pushed e new pred row height within some is goes =
 
 -- clauses
 
-no_tries : (clauses : List Clause) (call : Call) → length clauses ≡ 0 → tries 0 clauses call ≡ []
-no_tries [] call e = refl
-no_tries (c ∷ clauses) call e = absurd (omega (arith, e))
+module _ (pushed : PointsPushed) (selects : SelectsInOrder) (e : code.Engine) (exit : code_exit.Exit) (rest : ℕ) (kept : IsKept e) (k : Key) (k_is : k ≡ first_key (terms_at e exit.args)) (count : ℕ) (many : count ≡ length (selected_at e.index exit.pred k)) where
+  abbrev clauses : List Clause
+  clauses = (pred_of e.program.now exit.pred).clauses
 
-pub no_clauses : (e : code.Engine) (exit : code_exit.Exit) (rest : ℕ) → IsKept e → length (pred_of e.program.now exit.pred).clauses ≡ 0 →
-    GoesTo e (length e.links.items) (tries 0 (pred_of e.program.now exit.pred).clauses (call_now e exit rest) ++ choices_at e) e
-no_clauses e exit rest kept none =
-    subst (λ ts. GoesTo e (length e.links.items) (ts ++ choices_at e) e) (sym (no_tries (pred_of e.program.now exit.pred).clauses (call_now e exit rest) none)) (stays e (length e.links.items) kept (omega arith))
+  abbrev choices_with : List ℕ → (height : ℕ) → List Choice
+  choices_with left height = alternative_choices (value_of e.heap.changes) (as_links e.notes.items e.links.items) e.query (Retries left (record { exit = as_exit e.notes.items exit; height = height; rest = rest }))
 
-pub some_clauses : PointsPushed → (e new : code.Engine) (exit : code_exit.Exit) (rest count height : ℕ) → count ≡ length (pred_of e.program.now exit.pred).clauses → height ≡ length (choices_at e) →
-    GoesTo e (length e.links.items) (alternative_choices (value_of e.heap.changes) (as_links e.notes.items e.links.items) e.query (as_alternative e.notes.items (code_alternative.Retries 0 count (record { exit = exit; height = height; rest = rest }))) ++ choices_at e) new →
-    GoesTo e (length e.links.items) (tries 0 (pred_of e.program.now exit.pred).clauses (call_now e exit rest) ++ choices_at e) new
-some_clauses pushed e new exit rest count height many is goes =
-    let clauses = (pred_of e.program.now exit.pred).clauses in
-    let value = value_of e.heap.changes in
-    let links = as_links e.notes.items e.links.items in
-    let pending : Pending = record { exit = as_exit e.notes.items exit; height = length (choices_at e); rest = rest } in
-    let left : count - 0 ≡ length clauses = omega (arith, many) in
-    let same : alternative_choices value links e.query (as_alternative e.notes.items (code_alternative.Retries 0 count (record { exit = exit; height = height; rest = rest }))) ≡ tries 0 clauses (call_now e exit rest) =
-    (λ i. alternative_choices value links e.query (Retries (places 0 (left i)) (record { exit = as_exit e.notes.items exit; height = is i; rest = rest })))
-    ∙ sym (pushed.clauses value links e.query pending clauses) in
-    subst (λ ts. GoesTo e (length e.links.items) (ts ++ choices_at e) new) same goes
+  -- the clauses that are selected are those that can match
+  chosen_are : (height : ℕ) → height ≡ length (choices_at e) → choices_with (clauses_left e.index exit.pred k 0 count) height ≡ chosen_now e exit rest
+  chosen_are height is =
+      let pending : Pending = record { exit = as_exit e.notes.items exit; height = length (choices_at e); rest = rest } in
+      (λ i. choices_with (all_left selects e.program.now e.index exit.pred k count kept.indexed many i) (is i))
+      ∙ sym (pushed.chosen_clauses (value_of e.heap.changes) (as_links e.notes.items e.links.items) e.query pending clauses (can_match e.program.now exit.pred k))
+      ∙ ap (λ key. chosen (can_match e.program.now exit.pred key) 0 clauses (call_now e exit rest)) k_is
+
+  pub no_clauses : count ≡ 0 → GoesTo e (length e.links.items) (chosen_now e exit rest ++ choices_at e) e
+  no_clauses none =
+      let empty : choices_with (clauses_left e.index exit.pred k 0 count) (length (choices_at e)) ≡ [] = ap (λ n. choices_with (clauses_left e.index exit.pred k 0 n) (length (choices_at e))) none in
+      subst (λ ts. GoesTo e (length e.links.items) (ts ++ choices_at e) e) (sym empty ∙ chosen_are (length (choices_at e)) refl) (stays e (length e.links.items) kept (omega arith))
+
+  pub some_clauses : (new : code.Engine) (height : ℕ) → height ≡ length (choices_at e) →
+      GoesTo e (length e.links.items) (alternative_choices (value_of e.heap.changes) (as_links e.notes.items e.links.items) e.query (as_alternative e.index e.notes.items (code_alternative.Retries k 0 count (record { exit = exit; height = height; rest = rest }))) ++ choices_at e) new →
+      GoesTo e (length e.links.items) (chosen_now e exit rest ++ choices_at e) new
+  some_clauses new height is goes = subst (λ ts. GoesTo e (length e.links.items) (ts ++ choices_at e) new) (chosen_are height is) goes
 
 -- all of it
 
@@ -176,12 +187,13 @@ module _ (reading : Reading) (pred : ℕ) (args : Row) (rest : ℕ) (e0 e1 e2 e3
       rest = frame_with (value_of ((to_fourth.heap i).changes)) (to_fourth.tasks rest (omega arith) i) (to_fourth.query i);
     }
 
-    module _ (e5 : code.Engine) (adds : GoesTo e4 (length e4.links.items) (tries 0 (pred_of e4.program.now pred).clauses (call_now e4 exit rest) ++ choices_at e4) e5) where
-      pub to_fifth : GoesTo e0 rest (tries 0 (pred_of e4.program.now pred).clauses (call_now e4 exit rest) ++ choices_at e4) e5
-      to_fifth = goes_on e0 e4 e5 rest (length e4.links.items) (choices_at e3) (tries 0 (pred_of e4.program.now pred).clauses (call_now e4 exit rest) ++ choices_at e4) to_fourth adds to_fourth.there
+    module _ (e5 : code.Engine) (adds : GoesTo e4 (length e4.links.items) (chosen_now e4 exit rest ++ choices_at e4) e5) where
+      pub to_fifth : GoesTo e0 rest (chosen_now e4 exit rest ++ choices_at e4) e5
+      to_fifth = goes_on e0 e4 e5 rest (length e4.links.items) (choices_at e3) (chosen_now e4 exit rest ++ choices_at e4) to_fourth adds to_fourth.there
 
-      fifth_choices : choices_at e5 ≡ tries 0 (pred_of e0.program.now pred).clauses call0 ++ below0
-      fifth_choices = to_fifth.choices_are ∙ (λ i. tries 0 (pred_of (to_fourth.program i) pred).clauses (call_is i) ++ fourth_choices i)
+      fifth_choices : choices_at e5 ≡ chosen (matches_at e0 pred args) 0 (pred_of e0.program.now pred).clauses call0 ++ below0
+      fifth_choices = to_fifth.choices_are
+          ∙ (λ i. chosen (can_match (to_fourth.program i) pred (first_key (row_at ((to_fourth.heap i).changes) args.first args.count))) 0 (pred_of (to_fourth.program i) pred).clauses (call_is i) ++ fourth_choices i)
 
       pub has_called : (bound tests : ℕ) → tests ≡ min (noted.tests + marked.tests) (2 ^ 64 - 1) → HasCalled reading bound pred args rest e0 tests (record e5 { calls = e5.calls + 1 })
       has_called bound tests sum =
@@ -190,7 +202,7 @@ module _ (reading : Reading) (pred : ℕ) (args : Row) (rest : ℕ) (e0 e1 e2 e3
           let same_marks = ap length (looked_same e0 e1 rest (choices_at e0) lets_go reading Comp pred) in
           record {
             program = to_fifth.program;
-            kept = record { in_range = to_fifth.kept.in_range; counted = to_fifth.kept.counted; moments = to_fifth.kept.moments };
+            kept = record { in_range = to_fifth.kept.in_range; indexed = to_fifth.kept.indexed; counted = to_fifth.kept.counted; moments = to_fifth.kept.moments };
             phase_is = λ i. Going (record { calls = one_more i; fresh = size_of ((sym to_fifth.heap i).changes); choices = sym fifth_choices i; current = Failed });
             tests_are = omega (arith, sum, takes_notes.tests_are, notes_marks.tests_are, same_notes, same_marks);
           }
@@ -206,17 +218,51 @@ module _ (reading : Reading) (bound : ℕ) (e : code.Engine) (pred : ℕ) (args 
 
   module _ (none told : List ℕ) (is_none : none ≡ []) (less : e.calls < bound) (counted : Counted)
       (tested : HasAdded (tests_by e.program.now reading).stops 1 (found_at_call e.program.now (terms_at e args)) (looks_by e.program.now reading pred).calls none told counted.tests counted.ended) where
-    makes : Makes (tests_by e.program.now reading) e.program.now bound (call_state e pred args height place rest) (tested_trace tested.r (after_tests_at reading bound e pred args rest))
-    makes = make.tested (goal.Call pred (terms_at e args)) pred (terms_at e args) height place (frame_now e (tasks_at e rest)) tested.r refl less tested.has
+    -- what would come after the tests, if all clauses were tried
+    abbrev after_all : Trace
+    after_all = after_calls_tests (tests_by e.program.now reading) e.program.now bound e.calls (size_of e.heap.changes) (choices_at e) pred (terms_at e args) (frame_now e (tasks_at e rest))
 
     pub broken : (end : Ending) → counted.ended ≡ Some end → HasTurned reading bound e (call_state e pred args height place rest) (map Broken told) counted.tests e (stage.Over end)
     broken end is =
-        ended_turn reading e (call_state e pred args height place rest) bound compose tested.r (after_tests_at reading bound e pred args rest) none told counted.tests end is_none
-        (subst (λ o. IsAdded none 0 tested.r told counted.tests o) is tested.added) makes
+        ended_turn reading e (call_state e pred args height place rest) bound compose tested.r after_all none told counted.tests end is_none (subst (λ o. IsAdded none 0 tested.r told counted.tests o) is tested.added)
+        (make.tested (goal.Call pred (terms_at e args)) pred (terms_at e args) height place (frame_now e (tasks_at e rest)) tested.r refl less tested.has)
 
-    pub called : (new : code.Engine) (looked total : ℕ) → counted.ended ≡ None → HasCalled reading bound pred args rest e looked new → total ≡ min (counted.tests + looked) (2 ^ 64 - 1) → LeanerStatesAreFound → IsWhole e (stage.Calling pred args height place rest) →
-        HasTurned reading bound e (call_state e pred args height place rest) (map Broken told) total new stage.Failed
-    called new looked total is made sum found whole =
-        open_turn reading e (call_state e pred args height place rest) bound compose tested.r (after_tests_at reading bound e pred args rest) none told counted.tests total new (as_state (as_engine new) Failed) stage.Failed is_none
-        (subst (λ o. IsAdded none 0 tested.r told counted.tests o) is tested.added) makes refl made.phase_is (omega (arith, sum, made.tests_are, tested.added.tests_are)) made.program refl found whole.kept.in_range whole.own tt
-        (λ own. record { kept = made.kept; own = own; in_hand = tt })
+    module _ (whole : IsWhole e (stage.Calling pred args height place rest)) (found : LeanerStatesAreFound) (left_out : LeftOutClash) where
+      abbrev program : Program
+      program = e.program.now
+
+      abbrev conds : List ℕ
+      conds = noted_at e reading Comp pred args
+
+      abbrev call : Call
+      call = call_above (choices_at e) pred (terms_at e args) (noted_at e reading Success pred args) conds (frame_now e (tasks_at e rest))
+
+      abbrev after : List Choice → State
+      after choices = after_call e.calls (size_of e.heap.changes) (choices_at e) pred conds choices
+
+      abbrev picked : State
+      picked = after (chosen (matches_at e pred args) 0 (pred_of program pred).clauses call)
+
+      -- the state with the clauses that can match has its heights and its variables in order
+      picked_own : IsLeaner program picked picked
+      picked_own =
+          let clauses = (pred_of program pred).clauses in
+          let states = found program whole.kept.in_range in
+          states.own (after (tries 0 clauses call)) picked
+          (states.called e.calls (size_of e.heap.changes) pred (goal.Call pred (terms_at e args)) (terms_at e args) (noted_at e reading Success pred args) conds height place (choices_at e) (frame_now e (tasks_at e rest)) clauses (matches_at e pred args)
+          (outs-Call pred (terms_at e args)) whole.own (others_out left_out program call))
+
+      abbrev state_in : State → Phase → State
+      state_in d (Going s) = s
+      state_in d (Over end) = d
+
+      pub called : (new : code.Engine) (looked total : ℕ) → counted.ended ≡ None → HasCalled reading bound pred args rest e looked new → total ≡ min (counted.tests + looked) (2 ^ 64 - 1) →
+          CallsMove (tests_by program reading) program bound → HasTurned reading bound e (call_state e pred args height place rest) (map Broken told) total new stage.Failed
+      called new looked total is made sum moves =
+          let s = as_state (as_engine new) Failed in
+          let same : picked ≡ s = ap (state_in s) made.phase_is in
+          open_moved reading e (call_state e pred args height place rest) bound compose tested.r (after_tests_at reading bound e pred args rest) none told counted.tests total new s stage.Failed is_none
+          (subst (λ o. IsAdded none 0 tested.r told counted.tests o) is tested.added)
+          (moves.chosen_clauses e.calls (size_of e.heap.changes) pred (choices_at e) (goal.Call pred (terms_at e args)) (terms_at e args) height place (frame_now e (tasks_at e rest)) tested.r (matches_at e pred args) refl less tested.has whole.own
+          (others_out left_out program call)) refl made.phase_is (omega (arith, sum, made.tests_are, tested.added.tests_are)) made.program refl (subst (λ x. IsLeaner program x x) same picked_own)
+          (λ own. record { kept = made.kept; own = own; in_hand = tt })

@@ -1,6 +1,6 @@
 -- What a run does where it has failed.
 use Rattle.std.proofs.Common.{◌≡◌, ◌≤◌, ◌<◌, ℕ, zero, suc, ◌-◌, ◌+◌, ◌^◌, Bool, List, [], ◌∷◌, ◌++◌, map, min, length, Option, None, Some, refl, sym, ap, subst, ◌∙◌, arith}
-use Rattle.std.proofs.lemmas.List.{append-nil}
+use Rattle.std.proofs.lemmas.List.{append-nil, length-map}
 use Rattle.prog_data.specs.declared.programs.Program.{Program}
 use Rattle.prog_data.specs.declared.events.Event.{Event}
 use Rattle.prog_data.specs.declared.events.Event.TheVariants.{Broken}
@@ -10,6 +10,7 @@ use Rattle.machine_model.specs.State.{Call, Try, Failed, State, Phase, Going, Ov
 use Rattle.machine_model.specs.Tests.{Tests}
 use Rattle.machine_model.specs.Step.{quietly}
 use Rattle.machine_model.specs.Leaner.{IsLeaner}
+use Rattle.clause_index.specs.declared.keys.Key.{Key}
 use Rattle.term_heap.specs.Changes.{size_of, value_of, places}
 use Rattle.engine_state.specs.declared.engine.Engine as code
 use Rattle.engine_state.specs.declared.points.Pending as code_pending
@@ -20,6 +21,7 @@ use Rattle.engine_state.specs.declared.stages.Stage.TheVariants as stage
 use Rattle.engine_state.specs.declared.tasks.Row.{Row}
 use Rattle.engine_state.specs.Engines.{frame_with, call_with, as_state}
 use Rattle.engine_state.specs.Views.{row_of, as_alternative, as_pending}
+use Rattle.engine_state.specs.Selections.{selected_at, clause_number}
 use Rattle.engine_state.specs.Stacks.{width}
 use Rattle.engine_state.specs.Stages.{as_engine, choices_at, tasks_at, frame_now, doing, phase_of, IsAt, IsWhole}
 use Rattle.engine_state.specs.Turns.{back_state, HasGoneBack}
@@ -98,24 +100,36 @@ length-places : (first count : ℕ) → length (places first count) ≡ count
 length-places first zero = refl
 length-places first (suc count) = ap suc (length-places (suc first) count)
 
-pub clause_state : (e : code.Engine) (next end : ℕ) (c : code_pending.Pending) → IsBackAt e (alternative.Retries next end c) → back_state e (alternative.Retries next end c) ≡ try_state e next c
-clause_state e next end c back =
-    let one : end - next ≡ suc zero = let less : next < end = back.wide in omega (arith, less, back.single, length-places next (end - next)) in
-    let call : Call = call_with (value_of e.heap.changes) (tasks_at e c.rest) e.query (as_pending e.notes.items c) in
-    ap (λ n. record { calls = e.calls; fresh = size_of e.heap.changes; choices = map (λ k. Try k call) (places next n) ++ choices_at e; current = Failed }) one
+module _ (e : code.Engine) (key : Key) (next end : ℕ) (c : code_pending.Pending) (back : IsBackAt e (alternative.Retries key next end c)) where
+  abbrev number : ℕ
+  number = clause_number e.index c.exit.pred key next
 
-pub is_to_try : (e : code.Engine) (next end : ℕ) (c : code_pending.Pending) → IsBackAt e (alternative.Retries next end c) → IsToTry e next c
-is_to_try e next end c back = record {
-  kept = back.kept;
-  own = subst (λ s. IsLeaner e.program.now s s) (clause_state e next end c back) back.own;
-  in_hand = record { call = back.placed.0; noted = back.noted; rest = back.placed.2 };
-}
+  -- there is one at its place
+  pub is_selected : next < length (selected_at e.index c.exit.pred key)
+  is_selected =
+      let less : next < end = back.wide in
+      let most : end ≤ length (selected_at e.index c.exit.pred key) = subst (λ keys. end ≤ length (selected_at keys c.exit.pred key)) (sym back.kept.indexed) back.placed.1 in
+      omega (arith, less, most)
 
-pub clause_tried : (reading : Reading) (bound : ℕ) (e new : code.Engine) (next end : ℕ) (c : code_pending.Pending) (told : List ℕ) (counted : ℕ) (to : code_stage.Stage) → told ≡ [] → IsBackAt e (alternative.Retries next end c) →
-    HasTurned reading bound e (try_state e next c) [] counted new to → HasTurned reading bound e (back_state e (alternative.Retries next end c)) (map Broken told) counted new to
-clause_tried reading bound e new next end c told counted to none back turned =
-    subst (λ ts. HasTurned reading bound e (back_state e (alternative.Retries next end c)) (map Broken ts) counted new to) (sym none)
-    (subst (λ s. HasTurned reading bound e s [] counted new to) (sym (clause_state e next end c back)) turned)
+  pub clause_state : back_state e (alternative.Retries key next end c) ≡ try_state e number c
+  clause_state =
+      let left = length-map (places next (end - next)) (clause_number e.index c.exit.pred key) in
+      let one : end - next ≡ suc zero = let less : next < end = back.wide in omega (arith, less, back.single, left, length-places next (end - next)) in
+      let call : Call = call_with (value_of e.heap.changes) (tasks_at e c.rest) e.query (as_pending e.notes.items c) in
+      ap (λ n. record { calls = e.calls; fresh = size_of e.heap.changes; choices = map (λ k. Try k call) (map (clause_number e.index c.exit.pred key) (places next n)) ++ choices_at e; current = Failed }) one
+
+  pub is_to_try : IsToTry e number c
+  is_to_try = record {
+    kept = back.kept;
+    own = subst (λ s. IsLeaner e.program.now s s) clause_state back.own;
+    in_hand = record { call = back.placed.0; noted = back.noted; rest = back.placed.2 };
+  }
+
+  pub clause_tried : (reading : Reading) (bound : ℕ) (new : code.Engine) (told : List ℕ) (counted : ℕ) (to : code_stage.Stage) → told ≡ [] →
+      HasTurned reading bound e (try_state e number c) [] counted new to → HasTurned reading bound e (back_state e (alternative.Retries key next end c)) (map Broken told) counted new to
+  clause_tried reading bound new told counted to none turned =
+      subst (λ ts. HasTurned reading bound e (back_state e (alternative.Retries key next end c)) (map Broken ts) counted new to) (sym none)
+      (subst (λ s. HasTurned reading bound e s [] counted new to) (sym clause_state) turned)
 
 -- a mark is tested
 

@@ -33,7 +33,7 @@ module _ (law : Relied) (old : code.Engine) (heap : History) (more : List Change
   links = as_links old.notes.items old.links.items
 
   abbrev points : List ChoicePoint
-  points = as_points old.notes.items old.points.items
+  points = as_points old.index old.notes.items old.points.items
 
   later_moments : HasMoments old.program.now old.query heap.changes old.notes.items old.links.items old.points.items
   later_moments =
@@ -42,17 +42,17 @@ module _ (law : Relied) (old : code.Engine) (heap : History) (more : List Change
 
   -- it keeps what it kept
   pub later_kept : IsKept (record old { heap = heap })
-  later_kept = record { in_range = kept.in_range; counted = kept.counted; moments = later_moments }
+  later_kept = record { in_range = kept.in_range; indexed = kept.indexed; counted = kept.counted; moments = later_moments }
 
   -- its choices are the same
   pub later_choices : choices_of heap.changes links old.query points ≡ choices_at old
   later_choices =
       ap (λ cs. choices_of cs links old.query points) is
       ∙ law.choices.later more old.heap.changes links old.query points
-      ((law.give old.program.now).in_order old.notes.items old.query old.heap.changes (length old.notes.items) (reverse old.links.items) (reverse old.points.items) kept.moments)
+      ((law.give old.program.now).in_order old.index old.notes.items old.query old.heap.changes (length old.notes.items) (reverse old.links.items) (reverse old.points.items) kept.moments)
 
   -- their variables are cells
   pub later_below : IsMade heap.changes → AreBelow (size_of heap.changes) (choices_at old)
   later_below made =
-      let within = (law.within old.program.now).points_are old.notes.items old.query heap.changes (length old.notes.items) (reverse old.links.items) (reverse old.points.items) later_moments in
+      let within = (law.within old.program.now).points_are old.index old.notes.items old.query heap.changes (length old.notes.items) (reverse old.links.items) (reverse old.points.items) later_moments in
       subst (AreBelow (size_of heap.changes)) later_choices (law.variables.choices heap.changes links old.query points made within)

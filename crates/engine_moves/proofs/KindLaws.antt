@@ -21,14 +21,14 @@ pub end_says : (h : List Change) (place root : ℕ) (c : Cell) → IsMade h → 
 end_says h place root c made lt end same is = record { root = root; is = sym same ∙ fits h root made lt ∙ ap (cell_term (value_of h) root) (sym is); ends = subst IsEnd (sym is) end }
 
 -- the outermost of a cell's term
-abbrev cell_layer : (ℕ → Term) → ℕ → Cell → layer.Term-F Term
+abbrev pub cell_layer : (ℕ → Term) → ℕ → Cell → layer.Term-F Term
 cell_layer value at cell.Free = layer.Var at
 cell_layer value at (cell.Ref to) = out-Term (value to)
 cell_layer value at (cell.Int n) = layer.Int n
 cell_layer value at (cell.Atom a) = layer.Atom a
 cell_layer value at (cell.Node f count first) = layer.Node f (map value (places first count))
 
-layer_is : (value : ℕ → Term) (at : ℕ) (c : Cell) → out-Term (cell_term value at c) ≡ cell_layer value at c
+pub layer_is : (value : ℕ → Term) (at : ℕ) (c : Cell) → out-Term (cell_term value at c) ≡ cell_layer value at c
 layer_is value at cell.Free = outs-Var at
 layer_is value at (cell.Ref to) = refl
 layer_is value at (cell.Int n) = outs-Int n

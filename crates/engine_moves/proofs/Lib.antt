@@ -2,6 +2,7 @@ mod AnswerLaws
 mod BuiltinTurns
 mod BuiltinWork
 mod CallLaws
+mod ChoosingLaws
 pub mod ClauseRanges
 mod EnterLaws
 mod ExitLaws

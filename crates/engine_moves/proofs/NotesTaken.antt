@@ -45,11 +45,11 @@ module _ (e : code.Engine) (kept : IsKept e) (notes_stay : NotesStay) (moments :
       each_forward (λ l. IsTaskNoted (length all) l.task) e.links.items (give.links_noted e.query e.heap.changes (length all) (reverse e.links.items) (reverse e.points.items) kept.moments) in
       subst (λ ns. as_links ns e.links.items ≡ as_links all e.links.items) front (notes_stay.links (length all) all more e.links.items (omega arith) noted)
 
-  same_points : as_points notes.items e.points.items ≡ as_points all e.points.items
+  same_points : as_points e.index notes.items e.points.items ≡ as_points e.index all e.points.items
   same_points =
       let noted : ArePointsNoted (length all) e.points.items =
       each_forward (λ p. IsAlternativeNoted (length all) p.alternative) e.points.items (give.points_noted e.query e.heap.changes (length all) (reverse e.links.items) (reverse e.points.items) kept.moments) in
-      subst (λ ns. as_points ns e.points.items ≡ as_points all e.points.items) front (notes_stay.points (length all) all more e.points.items (omega arith) noted)
+      subst (λ ns. as_points e.index ns e.points.items ≡ as_points e.index all e.points.items) front (notes_stay.points e.index (length all) all more e.points.items (omega arith) noted)
 
   -- nothing else is changed
   pub goes_noted : GoesTo e (length e.links.items) (choices_at e) (record e { notes = notes })
@@ -62,6 +62,7 @@ module _ (e : code.Engine) (kept : IsKept e) (notes_stay : NotesStay) (moments :
     tasks = λ j le. ap (λ links. chain links j) same_links;
     kept = record {
       in_range = kept.in_range;
+      indexed = kept.indexed;
       counted = subst AreCounted (sym same_points) kept.counted;
       moments = moments.more_notes e.query e.heap.changes (length all) (length notes.items) (reverse e.links.items) (reverse e.points.items) (omega (arith, ap length is, length-append all more)) kept.moments;
     };

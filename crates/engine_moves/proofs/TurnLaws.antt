@@ -79,6 +79,21 @@ module _ (reading : Reading) (old : code.Engine) (from : State) where
         }
 
     -- tests that did not, and what came after them
+    pub open_moved : (r : Tested) (next : Trace) (none told : List ℕ) (tests counted : ℕ) (new : code.Engine) (s : State) (to : code_stage.Stage) → none ≡ [] → IsAdded none 0 r told tests None → Moves what old.program.now bound (Going from) (tested_trace r next) →
+        next.events ≡ [] → next.phase ≡ Going s → counted ≡ min (r.tests + next.tests) (2 ^ 64 - 1) → new.program.now ≡ old.program.now → phase_of new to ≡ Some (Going s) →
+        IsLeaner old.program.now s s → (IsLeaner new.program.now s s → IsWhole new to) → HasTurned reading bound old from (map Broken told) counted new to
+    open_moved r next none told tests counted new s to is_none added moves quiet phase sum same to_is own whole =
+        let is : told ≡ r.told = added.told_is ∙ ap (λ ts. ts ++ r.told) is_none in
+        let trace : tested_trace r next ≡ record { events = map Broken told; tests = r.tests + next.tests; phase = Going s } = open_trace r next told (Going s) is added.ended_is quiet phase in
+        record {
+          program = same;
+          tests = r.tests + next.tests;
+          counted_are = sum;
+          moves = subst (λ p. IsMoveTo what old.program.now bound from (map Broken told) (r.tests + next.tests) p) (sym to_is) (subst (Moves what old.program.now bound (Going from)) trace moves);
+          whole = whole (subst (λ p. IsLeaner p s s) (sym same) own);
+        }
+
+    -- so by steps of the semantics
     pub open_turn : (r : Tested) (next : Trace) (none told : List ℕ) (tests counted : ℕ) (new : code.Engine) (s : State) (to : code_stage.Stage) → none ≡ [] → IsAdded none 0 r told tests None → Makes what old.program.now bound from (tested_trace r next) →
         next.events ≡ [] → next.phase ≡ Going s → counted ≡ min (r.tests + next.tests) (2 ^ 64 - 1) → new.program.now ≡ old.program.now → phase_of new to ≡ Some (Going s) →
         LeanerStatesAreFound → IsProgram old.program.now → IsLeaner old.program.now from from → IsDone s.current → (IsLeaner new.program.now s s → IsWhole new to) → HasTurned reading bound old from (map Broken told) counted new to
@@ -86,11 +101,4 @@ module _ (reading : Reading) (old : code.Engine) (from : State) where
         let is : told ≡ r.told = added.told_is ∙ ap (λ ts. ts ++ r.told) is_none in
         let trace : tested_trace r next ≡ record { events = map Broken told; tests = r.tests + next.tests; phase = Going s } = open_trace r next told (Going s) is added.ended_is quiet phase in
         let own_new : IsLeaner old.program.now s s = compose.own (found old.program.now ok) from s (tested_trace r next) own makes (ap (λ t. t.phase) trace) done in
-        record {
-          program = same;
-          tests = r.tests + next.tests;
-          counted_are = sum;
-          moves = subst (λ p. IsMoveTo what old.program.now bound from (map Broken told) (r.tests + next.tests) p) (sym to_is)
-              (subst (Moves what old.program.now bound (Going from)) trace (compose.made from (tested_trace r next) makes));
-          whole = whole (subst (λ p. IsLeaner p s s) (sym same) own_new);
-        }
+        open_moved r next none told tests counted new s to is_none added (compose.made from (tested_trace r next) makes) quiet phase sum same to_is own_new whole

@@ -1,10 +1,14 @@
 -- What is done at a call.
 -- The headline does not rest on this file.
-use Rattle.std.specs.Prelude.{◌≡◌, ◌-◌, ◌^◌, ℕ, min, List, length, Option}
+use Rattle.std.specs.Prelude.{◌≡◌, ◌-◌, ◌^◌, ℕ, min, Bool, List, length, Option}
 use Rattle.term_core.specs.declared.terms.Term.{Term}
 use Rattle.prog_data.specs.declared.programs.Place.{Place}
-use Rattle.machine_model.specs.State.{Call, Doing, Failed, State, Going, Trace}
+use Rattle.prog_data.specs.Goals.{pred_of}
+use Rattle.machine_model.specs.State.{Call, Choice, Doing, Failed, State, Going, Trace}
 use Rattle.machine_model.specs.Step.{with_mark, mark_height}
+use Rattle.machine_model.specs.LeanerLaws.{chosen}
+use Rattle.clause_index.specs.Keys.{first_key}
+use Rattle.clause_index.specs.Selected.{can_match}
 use Rattle.term_heap.specs.Changes.{size_of, value_of}
 use Rattle.prop_check.specs.Places.{row_at}
 use Rattle.engine_state.specs.declared.engine.Engine as code
@@ -13,7 +17,8 @@ use Rattle.engine_state.specs.declared.tasks.Exit as code_exit
 use Rattle.engine_state.specs.Engines.{call_with, as_state}
 use Rattle.engine_state.specs.Views.{row_of, as_exit}
 use Rattle.engine_state.specs.Notes.{IsRowWithin}
-use Rattle.engine_state.specs.StepsMade.{whose_pre_holds, after_calls_tests}
+use Rattle.engine_state.specs.StepsMade.{whose_pre_holds}
+use Rattle.engine_state.specs.MoveLaws.{after_chosen}
 use Rattle.engine_state.specs.Stages.{as_engine, choices_at, tasks_at, frame_now, call_frame, IsKept}
 use Rattle.engine_state.specs.Turns.{GoesTo}
 use Rattle.engine_moves.specs.declared.calls.Noted.{Noted}
@@ -54,11 +59,20 @@ pub record HasMarked (old : code.Engine) (pred : ℕ) (conds : List ℕ) (mark :
 abbrev pub call_now : code.Engine → code_exit.Exit → (rest : ℕ) → Call
 call_now e exit rest = call_with (value_of e.heap.changes) (tasks_at e rest) e.query (record { exit = as_exit e.notes.items exit; height = length (choices_at e); rest = rest })
 
--- what comes after the tests of a call
-abbrev pub after_tests_at : Reading → (bound : ℕ) → code.Engine → (pred : ℕ) → Row → (rest : ℕ) → Trace
-after_tests_at reading bound e pred args rest = after_calls_tests (tests_by e.program.now reading) e.program.now bound e.calls (size_of e.heap.changes) (choices_at e) pred (terms_at e args) (frame_now e (tasks_at e rest))
+-- whether the clause with a number can match a call with these arguments, by the first of them
+abbrev pub matches_at : code.Engine → (pred : ℕ) → Row → (clause : ℕ) → Bool
+matches_at e pred args = can_match e.program.now pred (first_key (terms_at e args))
 
--- a call was made, after its tests: the run goes back to the first of its clauses; so many tests of Pre were counted
+-- the clauses of a call that can match, as choices
+abbrev pub chosen_now : code.Engine → code_exit.Exit → (rest : ℕ) → List Choice
+chosen_now e exit rest = chosen (matches_at e exit.pred exit.args) 0 (pred_of e.program.now exit.pred).clauses (call_now e exit rest)
+
+-- what comes after the tests of a call, of which only the clauses that can match are to be tried
+abbrev pub after_tests_at : Reading → (bound : ℕ) → code.Engine → (pred : ℕ) → Row → (rest : ℕ) → Trace
+after_tests_at reading bound e pred args rest =
+    after_chosen (tests_by e.program.now reading) e.program.now bound (matches_at e pred args) e.calls (size_of e.heap.changes) (choices_at e) pred (terms_at e args) (frame_now e (tasks_at e rest))
+
+-- a call was made, after its tests: the run goes back to the first of its clauses that can match; so many tests of Pre were counted
 pub record HasCalled (reading : Reading) (bound : ℕ) (pred : ℕ) (args : Row) (rest : ℕ) (old : code.Engine) (tests : ℕ) (new : code.Engine) : Type 0 where
   pub program : new.program.now ≡ old.program.now
   pub kept : IsKept new

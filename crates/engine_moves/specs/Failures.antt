@@ -22,7 +22,7 @@ pub record IsBackAt (e : code.Engine) (a : code_alternative.Alternative) : Type 
   pub placed : IsAlternativePlaced e.program.now (size_of e.heap.changes) (length e.links.items) a
   pub noted : IsAlternativeNoted (length e.notes.items) a
   pub wide : IsWide a
-  pub single : width (as_alternative e.notes.items a) ≤ 1
+  pub single : width (as_alternative e.index e.notes.items a) ≤ 1
 
 -- the stage behind tests of a failure
 abbrev pub failed_unless : Option Ending → code_stage.Stage

@@ -1,6 +1,7 @@
 pub mod Answers
 pub mod BuiltinEffects
 pub mod Calling
+pub mod Choosing
 pub mod Exiting
 pub mod Failures
 pub mod Linked

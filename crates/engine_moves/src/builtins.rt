@@ -16,6 +16,7 @@ mod writing;
 
 use effects::{Effect, effect_of};
 use engine_state::{Engine, Row, Setting, Stage, builtin_moves_law};
+pub(crate) use kinds::end_cell;
 use prog_data::{Builtin, Ending, Text};
 use std::alloc::Global;
 use term_core::{NoMemory, Term};

@@ -1,8 +1,6 @@
 // Calls.
 ghost use Rattle.std.specs.Prelude.{◌≡◌, ◌≤◌, ◌<◌, ◌++◌, [], map, length, IfOk, OnOk};
 ghost use Rattle.prog_data.specs.declared.events.Event.TheVariants.{Broken};
-ghost use Rattle.prog_data.specs.Goals.{pred_of};
-ghost use Rattle.machine_model.specs.Step.{tries};
 ghost use Rattle.term_heap.specs.Changes.{size_of};
 ghost use Rattle.engine_state.specs.declared.stages.Stage.TheVariants.{Calling};
 ghost use Rattle.engine_state.specs.Views.{row_of};
@@ -15,15 +13,17 @@ ghost use Rattle.engine_state.specs.Turns.{GoesTo};
 ghost use Rattle.engine_moves.specs.Readings.{tests_by};
 ghost use Rattle.engine_moves.specs.Turned.{HasTurned};
 ghost use Rattle.engine_moves.specs.Looking.{looks_by};
-ghost use Rattle.engine_moves.specs.Calling.{terms_at, call_state, call_now, HasNoted, HasMarked, HasCalled};
+ghost use Rattle.engine_moves.specs.Calling.{terms_at, call_state, chosen_now, HasNoted, HasMarked, HasCalled};
 
-use crate::looking::{Kind, calls_condition, count_clauses, stops};
+use crate::choosing::first_key;
+use crate::looking::{Kind, calls_condition, stops};
 use crate::noting::take_notes;
 use crate::readings::Reading;
 use crate::turns::Turn;
+use clause_index::{left_out_law, selected_law};
 use engine_state::{
-    Alternative, Counted, Engine, Exit, Pending, Row, Stage, calls_law, moments_give_law,
-    moments_law, moves_law, notes_law, pushed_law, test_all, tests_law,
+    Alternative, Counted, Engine, Exit, Pending, Row, Stage, calls_law, chosen_law,
+    moments_give_law, moments_law, moves_law, notes_law, pushed_law, test_all, tests_law,
 };
 use machine_model::leaner_states_law;
 use prog_data::{Ending, Place};
@@ -112,26 +112,28 @@ fn add_mark<'p>(
     Ok(Some(height))
 }
 
-// Makes a choice point with all clauses of a call, if there are any.
+// Makes a choice point with the clauses of a call that can match, if there are any.
 fn add_clauses<'p>(engine: &mut Engine<'p>, exit: Exit, rest: u64) -> Result<(), NoMemory>
     requires kept { IsKept engine.old }
     requires placed { IsCallPlaced engine.old.program.now (size_of engine.old.heap.changes) exit.pred exit.args }
     requires noted { IsRowWithin (length engine.old.notes.items) exit.noted }
     requires rest { rest ≤ length engine.old.links.items }
-    ensures { OnOk result (GoesTo engine.old (length engine.old.links.items) (tries 0 (pred_of engine.old.program.now exit.pred).clauses (call_now engine.old exit rest) ++ choices_at engine.old) engine.new) }
+    ensures { OnOk result (GoesTo engine.old (length engine.old.links.items) (chosen_now engine.old exit rest ++ choices_at engine.old) engine.new) }
 {
     pushed_law();
-    let count = count_clauses(engine.program, exit.pred);
+    selected_law();
+    let key = first_key(&engine.heap, exit.args);
+    let count = engine.count_selected(exit.pred, key);
     if count == 0 {
         return Ok(());
     }
     let height = engine.height()?;
     let call = Pending { exit, height, rest };
-    engine.add_point(Alternative::Retries(0, count, call))?;
+    engine.add_point(Alternative::Retries(key, 0, count, call))?;
     Ok(())
 }
 
-// Makes a call that its tests have not ended: takes notes, and makes a mark and choices of the clauses. How many tests Pre
+// Makes a call that its tests have not ended: takes notes, and makes a mark and choices of the clauses that can match. How many tests Pre
 // took, at most the greatest number of 64 bits.
 fn make_call<'p>(
     engine: &mut Engine<'p>,
@@ -184,6 +186,8 @@ pub fn do_call<'p>(
     ensures { IfOk result (λ turn. HasTurned reading bound engine.old (call_state engine.old pred args height place rest) (map Broken told.new.items) turn.tests engine.new turn.stage) }
 {
     calls_law();
+    chosen_law();
+    left_out_law();
     moves_law();
     leaner_states_law();
     if engine.calls >= bound {

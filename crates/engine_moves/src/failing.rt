@@ -81,8 +81,9 @@ fn take_up<'p>(
             stage: Stage::Doing(rest),
             tests: 0,
         }),
-        Alternative::Retries(next, _, pending) => {
-            let turn = try_clause(engine, alloc, reading, next, pending)?;
+        Alternative::Retries(key, next, _, pending) => {
+            let number = engine.selected(pending.exit.pred, key, next);
+            let turn = try_clause(engine, alloc, reading, number, pending)?;
             Ok(turn)
         }
         Alternative::Marks(_, conds, exited) => {

@@ -4,6 +4,7 @@
 mod answers;
 mod builtins;
 mod calls;
+mod choosing;
 mod exits;
 mod failing;
 mod links;

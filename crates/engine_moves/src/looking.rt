@@ -60,16 +60,6 @@ pub(crate) fn checks_of(program: &Program, pred: u64) -> &[Check]
     }
 }
 
-/// How many clauses a predicate has, none where there is no such predicate.
-pub(crate) fn count_clauses(program: &Program, pred: u64) -> u64
-    ensures { result ≡ length (pred_of program.now pred).clauses }
-{
-    match program.preds.get(pred as usize) {
-        Some(pred) => pred.clauses.len() as u64,
-        None => 0,
-    }
-}
-
 // Whether the condition with this number is a calls condition.
 fn is_calls(program: &Program, condition: u64) -> bool
     ensures { result ≡ is_calls (kind_of program.now condition) }

@@ -22,7 +22,7 @@ use Rattle.engine_state.proofs.MomentLaws.{undone_length, left_length}
 use Rattle.engine_state.proofs.GivenLaws.{in_order, held, links_noted, points_noted, rest_placed}
 
 module _ (old : code.Engine) (kept : IsKept old) (p : code_point.ChoicePoint) (heap : History) (links : Vec code_link.Link Global) (notes : Vec ℕ Global) (points : Vec code_point.ChoicePoint Global)
-    (taken : IsTaken (as_points old.notes.items old.points.items) (as_point old.notes.items p) (as_points old.notes.items points.items))
+    (taken : IsTaken (as_points old.index old.notes.items old.points.items) (as_point old.index old.notes.items p) (as_points old.index old.notes.items points.items))
     (back : HasItsMoment old.program.now old.query old.heap.changes old.notes.items old.links.items p points.items)
     (heap_is : heap.changes ≡ undone p.trail old.heap.changes) (links_are : links.items ≡ take p.links old.links.items) (notes_are : notes.items ≡ take p.notes old.notes.items) where
   abbrev new : code.Engine
@@ -66,20 +66,20 @@ module _ (old : code.Engine) (kept : IsKept old) (p : code_point.ChoicePoint) (h
       subst (λ ns. as_links ns links.items ≡ as_links old.notes.items links.items) front
       (notes_stay.links p.notes old.notes.items [] links.items back.before.fewer_notes (subst (AreLinksNoted p.notes) (reverse-reverse links.items) (each_reversed (λ l. IsTaskNoted p.notes l.task) (reverse links.items) noted)))
 
-  same_points : as_points notes.items points.items ≡ as_points old.notes.items points.items
+  same_points : as_points old.index notes.items points.items ≡ as_points old.index old.notes.items points.items
   same_points =
       let noted : ArePointsNoted p.notes (reverse points.items) = subst (λ n. ArePointsNoted n (reverse points.items)) notes_size (points_noted old.program.now old.query heap.changes (length notes.items) (reverse links.items) (reverse points.items) moments) in
-      subst (λ ns. as_points ns points.items ≡ as_points old.notes.items points.items) front
-      (notes_stay.points p.notes old.notes.items [] points.items back.before.fewer_notes (subst (ArePointsNoted p.notes) (reverse-reverse points.items) (each_reversed (λ q. IsAlternativeNoted p.notes q.alternative) (reverse points.items) noted)))
+      subst (λ ns. as_points old.index ns points.items ≡ as_points old.index old.notes.items points.items) front
+      (notes_stay.points old.index p.notes old.notes.items [] points.items back.before.fewer_notes (subst (ArePointsNoted p.notes) (reverse-reverse points.items) (each_reversed (λ q. IsAlternativeNoted p.notes q.alternative) (reverse points.items) noted)))
 
   abbrev first_of : (d : ChoicePoint) → List ChoicePoint → ChoicePoint
   first_of d [] = d
   first_of d (q ∷ qs) = q
 
-  same_own : as_alternative notes.items p.alternative ≡ as_alternative old.notes.items p.alternative
+  same_own : as_alternative old.index notes.items p.alternative ≡ as_alternative old.index old.notes.items p.alternative
   same_own =
-      ap (λ ps. (first_of (as_point notes.items p) ps).alternative)
-      (subst (λ ns. as_points ns (p ∷ []) ≡ as_points old.notes.items (p ∷ [])) front (notes_stay.points p.notes old.notes.items [] (p ∷ []) back.before.fewer_notes (back.before.noted, tt)))
+      ap (λ ps. (first_of (as_point old.index notes.items p) ps).alternative)
+      (subst (λ ns. as_points old.index ns (p ∷ []) ≡ as_points old.index old.notes.items (p ∷ [])) front (notes_stay.points old.index p.notes old.notes.items [] (p ∷ []) back.before.fewer_notes (back.before.noted, tt)))
 
   -- the links that are left have their chains
   same_chain : (j : ℕ) → j ≤ p.links → chain (as_links notes.items links.items) j ≡ chain (as_links old.notes.items old.links.items) j
@@ -91,22 +91,22 @@ module _ (old : code.Engine) (kept : IsKept old) (p : code_point.ChoicePoint) (h
   abbrev news : List Link
   news = as_links notes.items links.items
 
-  own_choices : alternative_choices (value_of heap.changes) news old.query (as_alternative notes.items p.alternative) ≡ point_choices old.heap.changes olds old.query (as_point old.notes.items p)
+  own_choices : alternative_choices (value_of heap.changes) news old.query (as_alternative old.index notes.items p.alternative) ≡ point_choices old.heap.changes olds old.query (as_point old.index old.notes.items p)
   own_choices =
       ap (alternative_choices (value_of heap.changes) news old.query) same_own
-      ∙ same_alternative (value_of heap.changes) olds news old.query (as_alternative old.notes.items p.alternative)
-      (same_chain (rest_of (as_alternative old.notes.items p.alternative)) (rest_placed old.program.now old.notes.items (size_of (undone p.trail old.heap.changes)) p.links p.alternative back.before.placed))
-      ∙ ap (λ cs. alternative_choices (value_of cs) olds old.query (as_alternative old.notes.items p.alternative)) heap_is
+      ∙ same_alternative (value_of heap.changes) olds news old.query (as_alternative old.index old.notes.items p.alternative)
+      (same_chain (rest_of (as_alternative old.index old.notes.items p.alternative)) (rest_placed old.program.now old.index old.notes.items (size_of (undone p.trail old.heap.changes)) p.links p.alternative back.before.placed))
+      ∙ ap (λ cs. alternative_choices (value_of cs) olds old.query (as_alternative old.index old.notes.items p.alternative)) heap_is
 
-  other_choices : choices_of heap.changes news old.query (as_points notes.items points.items) ≡ choices_of old.heap.changes olds old.query (as_points old.notes.items points.items)
+  other_choices : choices_of heap.changes news old.query (as_points old.index notes.items points.items) ≡ choices_of old.heap.changes olds old.query (as_points old.index old.notes.items points.items)
   other_choices =
-      let ordered : AreInOrder p.trail (as_points old.notes.items points.items) =
-      subst (λ n. AreInOrder n (as_points old.notes.items points.items)) trail_size (in_order old.program.now old.notes.items old.query (undone p.trail old.heap.changes) p.notes left (reverse points.items) back.moments) in
-      let are_held : AreHeld p.links (as_points old.notes.items points.items) =
-      subst (λ n. AreHeld n (as_points old.notes.items points.items)) left_size (held old.program.now old.notes.items old.query (undone p.trail old.heap.changes) p.notes left (reverse points.items) back.moments) in
+      let ordered : AreInOrder p.trail (as_points old.index old.notes.items points.items) =
+      subst (λ n. AreInOrder n (as_points old.index old.notes.items points.items)) trail_size (in_order old.program.now old.index old.notes.items old.query (undone p.trail old.heap.changes) p.notes left (reverse points.items) back.moments) in
+      let are_held : AreHeld p.links (as_points old.index old.notes.items points.items) =
+      subst (λ n. AreHeld n (as_points old.index old.notes.items points.items)) left_size (held old.program.now old.index old.notes.items old.query (undone p.trail old.heap.changes) p.notes left (reverse points.items) back.moments) in
       (λ i. choices_of (heap_is i) news old.query (same_points i))
-      ∙ pushed_choices (undone p.trail old.heap.changes) olds news p.links old.query (as_points old.notes.items points.items) same_chain are_held
-      ∙ back_choices p.trail old.heap.changes olds old.query (as_points old.notes.items points.items) ordered
+      ∙ pushed_choices (undone p.trail old.heap.changes) olds news p.links old.query (as_points old.index old.notes.items points.items) same_chain are_held
+      ∙ back_choices p.trail old.heap.changes olds old.query (as_points old.index old.notes.items points.items) ordered
 
   pub has_taken : HasTaken old p.alternative new
   has_taken = record {
@@ -116,7 +116,7 @@ module _ (old : code.Engine) (kept : IsKept old) (p : code_point.ChoicePoint) (h
     past = (p.trail, heap_is);
     choices = taken.choices old.heap.changes olds old.query ∙ sym (λ i. own_choices i ++ other_choices i);
     single = subst (λ a. width a ≤ 1) (sym same_own) taken.single;
-    kept = record { in_range = kept.in_range; counted = subst AreCounted (sym same_points) (taken.counted kept.counted); moments = moments };
+    kept = record { in_range = kept.in_range; indexed = kept.indexed; counted = subst AreCounted (sym same_points) (taken.counted kept.counted); moments = moments };
     placed = subst (λ n. IsAlternativePlaced old.program.now (size_of heap.changes) n p.alternative) (sym links_size)
         (subst (λ cs. IsAlternativePlaced old.program.now (size_of cs) p.links p.alternative) (sym heap_is) back.before.placed);
     noted = subst (λ n. IsAlternativeNoted n p.alternative) (sym notes_size) back.before.noted;

@@ -51,22 +51,22 @@ module _ (old : code.Engine) (kept : IsKept old) (heap : History) (more : List C
       (later old.program.now old.query more old.heap.changes (length old.notes.items) (reverse old.links.items) (reverse old.points.items) kept.moments)
 
   pub still_kept : IsKept (with_heap old heap)
-  still_kept = record { in_range = kept.in_range; counted = kept.counted; moments = still_moments }
+  still_kept = record { in_range = kept.in_range; indexed = kept.indexed; counted = kept.counted; moments = still_moments }
 
   pub same_choices : choices_at (with_heap old heap) ≡ choices_at old
   same_choices =
       let links = as_links old.notes.items old.links.items in
-      let points = as_points old.notes.items old.points.items in
+      let points = as_points old.index old.notes.items old.points.items in
       ap (λ cs. choices_of cs links old.query points) is_new
       ∙ later_choices more old.heap.changes links old.query points
-      (in_order old.program.now old.notes.items old.query old.heap.changes (length old.notes.items) (reverse old.links.items) (reverse old.points.items) kept.moments)
+      (in_order old.program.now old.index old.notes.items old.query old.heap.changes (length old.notes.items) (reverse old.links.items) (reverse old.points.items) kept.moments)
 
   pub choices_below : IsMade heap.changes → AreBelow (size_of heap.changes) (choices_at old)
   choices_below made =
-      let within : ArePointsWithin heap.changes (as_links old.notes.items old.links.items) old.query (as_points old.notes.items old.points.items) =
-      (moments_within old.program.now).points_are old.notes.items old.query heap.changes (length old.notes.items) (reverse old.links.items) (reverse old.points.items) still_moments in
+      let within : ArePointsWithin heap.changes (as_links old.notes.items old.links.items) old.query (as_points old.index old.notes.items old.points.items) =
+      (moments_within old.program.now).points_are old.index old.notes.items old.query heap.changes (length old.notes.items) (reverse old.links.items) (reverse old.points.items) still_moments in
       subst (AreBelow (size_of heap.changes)) same_choices
-      (variables_within.choices heap.changes (as_links old.notes.items old.links.items) old.query (as_points old.notes.items old.points.items) made within)
+      (variables_within.choices heap.changes (as_links old.notes.items old.links.items) old.query (as_points old.index old.notes.items old.points.items) made within)
 
   pub tasks_there : (k : ℕ) → AreTasksWithin (size_of heap.changes) (tasks_at old k)
   tasks_there k = tasks_within.more (size_of old.heap.changes) (size_of heap.changes) (tasks_at old k) more_cells (links_tasks old k kept)

@@ -305,7 +305,7 @@ module _ (found : LeanerStatesAreFound) (e : code.Engine) (b : Builtin) (args : 
       undone_engine = with_heap e (record { changes = e.heap.changes; last = last })
 
       kept_there : IsKept undone_engine
-      kept_there = record { in_range = ready.kept.in_range; counted = ready.kept.counted; moments = ready.kept.moments }
+      kept_there = record { in_range = ready.kept.in_range; indexed = ready.kept.indexed; counted = ready.kept.counted; moments = ready.kept.moments }
 
       pub has_refuted : (u : code_unified.Unified) → HasUnified e.heap.changes x y u after → HasDone e from [] undone_engine (refuted_stage s u)
       has_refuted Same unified =

@@ -140,15 +140,15 @@ module _ (found : LeanerStatesAreFound) (old : code.Engine) (heap : History) (p 
       (later old.program.now old.query (change ∷ []) old.heap.changes (length old.notes.items) (reverse old.links.items) (reverse old.points.items) due.kept.moments)
 
   kept : IsKept new
-  kept = record { in_range = due.kept.in_range; counted = due.kept.counted; moments = moments }
+  kept = record { in_range = due.kept.in_range; indexed = due.kept.indexed; counted = due.kept.counted; moments = moments }
 
   same_choices : choices_at new ≡ choices_at old
   same_choices =
       let links = as_links old.notes.items old.links.items in
-      let points = as_points old.notes.items old.points.items in
+      let points = as_points old.index old.notes.items old.points.items in
       ap (λ cs. choices_of cs links old.query points) changes_are
       ∙ later_choices (change ∷ []) old.heap.changes links old.query points
-      (in_order old.program.now old.notes.items old.query old.heap.changes (length old.notes.items) (reverse old.links.items) (reverse old.points.items) due.kept.moments)
+      (in_order old.program.now old.index old.notes.items old.query old.heap.changes (length old.notes.items) (reverse old.links.items) (reverse old.points.items) due.kept.moments)
 
   abbrev tasks : List Task
   tasks = tasks_at old s.rest
@@ -166,10 +166,10 @@ module _ (found : LeanerStatesAreFound) (old : code.Engine) (heap : History) (p 
 
   choices_below : AreBelow (size_of heap.changes) (choices_at old)
   choices_below =
-      let within : ArePointsWithin heap.changes (as_links old.notes.items old.links.items) old.query (as_points old.notes.items old.points.items) =
-      (moments_within old.program.now).points_are old.notes.items old.query heap.changes (length old.notes.items) (reverse old.links.items) (reverse old.points.items) moments in
+      let within : ArePointsWithin heap.changes (as_links old.notes.items old.links.items) old.query (as_points old.index old.notes.items old.points.items) =
+      (moments_within old.program.now).points_are old.index old.notes.items old.query heap.changes (length old.notes.items) (reverse old.links.items) (reverse old.points.items) moments in
       subst (AreBelow (size_of heap.changes)) same_choices
-      (variables_within.choices heap.changes (as_links old.notes.items old.links.items) old.query (as_points old.notes.items old.points.items) made within)
+      (variables_within.choices heap.changes (as_links old.notes.items old.links.items) old.query (as_points old.index old.notes.items old.points.items) made within)
 
   frame_below : IsFrameBelow (size_of heap.changes) (frame_now old whole_tasks)
   frame_below =

@@ -35,7 +35,7 @@ cut_partly h (suc n) (c ∷ newer) older le e =
 cut_point : (h below width : ℕ) (own older : List Choice) → length own ≡ width → below ≡ length older → below < h → cut h (own ++ older) ≡ drop (width - (h - below)) own ++ older
 cut_point h below width own older many is less = cut_partly h (width - (h - below)) own older (omega (arith, is, less)) (omega (arith, many, is))
 
-drop_map : {A B : Type 0} (f : A → B) (n : ℕ) (xs : List A) → map f (drop n xs) ≡ drop n (map f xs)
+pub drop_map : {A B : Type 0} (f : A → B) (n : ℕ) (xs : List A) → map f (drop n xs) ≡ drop n (map f xs)
 drop_map f zero xs = refl
 drop_map f (suc n) [] = refl
 drop_map f (suc n) (x ∷ xs) = drop_map f n xs

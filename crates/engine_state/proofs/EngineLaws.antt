@@ -3,6 +3,7 @@ use Rattle.std.proofs.Common.{◌≡◌, ◌≤◌, ℕ, List, [], ◌∷◌, �
 use Rattle.std.proofs.lemmas.List.{reverse-append, reverse-reverse, length-reverse}
 use Rattle.std.specs.Prelude.{Vec}
 use Rattle.std.specs.declared.alloc.Global.{Global}
+use Rattle.clause_index.specs.declared.keys.Key.{Key}
 use Rattle.machine_model.specs.State.{Choice, Doing, cut, exit_mark}
 use Rattle.machine_model.specs.Step.{mark_of}
 use Rattle.term_heap.specs.Changes.{size_of, value_of}
@@ -28,18 +29,18 @@ use Rattle.engine_state.proofs.MomentLaws.{made, moment_now, held_within}
 use Rattle.engine_state.proofs.GivenLaws.{held, down, rising, points_noted}
 
 -- how many choices there are
-pub height_at : (e : code.Engine) (h : ℕ) → IsKept e → h ≡ height_of (as_points e.notes.items e.points.items) → h ≡ length (choices_at e)
-height_at e h kept is = is ∙ sym (heights e.heap.changes (as_links e.notes.items e.links.items) e.query (as_points e.notes.items e.points.items) kept.counted)
+pub height_at : (e : code.Engine) (h : ℕ) → IsKept e → h ≡ height_of (as_points e.index e.notes.items e.points.items) → h ≡ length (choices_at e)
+height_at e h kept is = is ∙ sym (heights e.heap.changes (as_links e.notes.items e.links.items) e.query (as_points e.index e.notes.items e.points.items) kept.counted)
 
 -- choice points hold what the newest of them does
-held_itself : (all : List ℕ) (links : ℕ) (points : List code_point.ChoicePoint) → AreHeld links (map (as_point all) points) → AreHeld (links_held points) (map (as_point all) points)
-held_itself all links [] are = tt
-held_itself all links (p ∷ ps) are = (omega arith, are.1, are.2)
+held_itself : (index : List (List Key)) (all : List ℕ) (links : ℕ) (points : List code_point.ChoicePoint) → AreHeld links (map (as_point index all) points) → AreHeld (links_held points) (map (as_point index all) points)
+held_itself index all links [] are = tt
+held_itself index all links (p ∷ ps) are = (omega arith, are.1, are.2)
 
-pub all_held : (e : code.Engine) → IsKept e → AreHeld (links_held (reverse e.points.items)) (as_points e.notes.items e.points.items)
+pub all_held : (e : code.Engine) → IsKept e → AreHeld (links_held (reverse e.points.items)) (as_points e.index e.notes.items e.points.items)
 all_held e kept =
-    held_itself e.notes.items (length (reverse e.links.items)) (reverse e.points.items)
-    (held e.program.now e.notes.items e.query e.heap.changes (length e.notes.items) (reverse e.links.items) (reverse e.points.items) kept.moments)
+    held_itself e.index e.notes.items (length (reverse e.links.items)) (reverse e.points.items)
+    (held e.program.now e.index e.notes.items e.query e.heap.changes (length e.notes.items) (reverse e.links.items) (reverse e.points.items) kept.moments)
 
 -- what pushing wants
 pub links_enough : (e : code.Engine) → IsKept e → links_held (reverse e.points.items) ≤ length e.links.items
@@ -66,10 +67,10 @@ module _ (old : code.Engine) (kept : IsKept old) where
         heap = refl;
         calls = refl;
         query = refl;
-        choices_are = ap (choices_of old.heap.changes news old.query) gone.points_are
-            ∙ pushed_choices old.heap.changes olds news (links_held (reverse old.points.items)) old.query (as_points old.notes.items old.points.items) (λ j le. gone.chains j (omega (arith, le))) (all_held old kept);
+        choices_are = ap (choices_of old.heap.changes news old.query) (gone.points_are old.index)
+            ∙ pushed_choices old.heap.changes olds news (links_held (reverse old.points.items)) old.query (as_points old.index old.notes.items old.points.items) (λ j le. gone.chains j (omega (arith, le))) (all_held old kept);
         tasks = λ j le. gone.chains j (omega (arith, le));
-        kept = record { in_range = kept.in_range; counted = subst AreCounted (sym gone.points_are) kept.counted; moments = gone.moments };
+        kept = record { in_range = kept.in_range; indexed = kept.indexed; counted = subst AreCounted (sym (gone.points_are old.index)) kept.counted; moments = gone.moments };
         there = gone.there;
       }
 
@@ -86,9 +87,9 @@ module _ (old : code.Engine) (kept : IsKept old) where
           heap = refl;
           calls = refl;
           query = refl;
-          choices_are = pushed_choices old.heap.changes olds news (links_held (reverse old.points.items)) old.query (as_points old.notes.items old.points.items) (λ j le. pushed.stay j (omega (arith, le))) (all_held old kept);
+          choices_are = pushed_choices old.heap.changes olds news (links_held (reverse old.points.items)) old.query (as_points old.index old.notes.items old.points.items) (λ j le. pushed.stay j (omega (arith, le))) (all_held old kept);
           tasks = λ j le. pushed.stay j (omega (arith, le));
-          kept = record { in_range = kept.in_range; counted = kept.counted; moments = moments };
+          kept = record { in_range = kept.in_range; indexed = kept.indexed; counted = kept.counted; moments = moments };
           there = omega (arith, number, pushed.above);
         };
         first = pushed.first;
@@ -98,22 +99,23 @@ module _ (old : code.Engine) (kept : IsKept old) where
 
   -- a choice point is made
   pub goes_pointed : (p : code_point.ChoicePoint) (new_points : Vec code_point.ChoicePoint Global) → new_points.items ≡ old.points.items ++ p ∷ [] → p.trail ≡ length old.heap.changes → p.links ≡ length links → p.notes ≡ length old.notes.items →
-      p.below ≡ height_of (as_points old.notes.items old.points.items) → IsAlternativePlaced old.program.now (size_of old.heap.changes) (length links) p.alternative → IsAlternativeNoted (length old.notes.items) p.alternative → IsWide p.alternative →
-      GoesTo old (length links) (alternative_choices (value_of old.heap.changes) (as_links old.notes.items links) old.query (as_alternative old.notes.items p.alternative) ++ choices_at old) (record old { points = new_points })
+      p.below ≡ height_of (as_points old.index old.notes.items old.points.items) → IsAlternativePlaced old.program.now (size_of old.heap.changes) (length links) p.alternative → IsAlternativeNoted (length old.notes.items) p.alternative → IsWide p.alternative →
+      GoesTo old (length links) (alternative_choices (value_of old.heap.changes) (as_links old.notes.items links) old.query (as_alternative old.index old.notes.items p.alternative) ++ choices_at old) (record old { points = new_points })
   goes_pointed p new_points is trail links_are notes_are below placed noted wide =
       let olds = as_links old.notes.items links in
       let newest_first : reverse new_points.items ≡ p ∷ reverse old.points.items = ap reverse is ∙ reverse-append old.points.items (p ∷ []) in
-      let points_are : as_points old.notes.items new_points.items ≡ as_point old.notes.items p ∷ as_points old.notes.items old.points.items = ap (map (as_point old.notes.items)) newest_first in
+      let points_are : as_points old.index old.notes.items new_points.items ≡ as_point old.index old.notes.items p ∷ as_points old.index old.notes.items old.points.items = ap (map (as_point old.index old.notes.items)) newest_first in
       let size : length (reverse links) ≡ length links = length-reverse links in
       record {
         program = refl;
         heap = refl;
         calls = refl;
         query = refl;
-        choices_are = ap (choices_of old.heap.changes olds old.query) points_are ∙ ap (λ cs. cs ++ choices_at old) (now_choices old.heap.changes olds old.query (as_point old.notes.items p) (omega (arith, trail)));
+        choices_are = ap (choices_of old.heap.changes olds old.query) points_are ∙ ap (λ cs. cs ++ choices_at old) (now_choices old.heap.changes olds old.query (as_point old.index old.notes.items p) (omega (arith, trail)));
         tasks = λ j le. refl;
         kept = record {
           in_range = kept.in_range;
+          indexed = kept.indexed;
           counted = subst AreCounted (sym points_are) (below, kept.counted);
           moments = subst (Moments old.program.now old.query old.heap.changes (length old.notes.items) (reverse links)) (sym newest_first)
               (made old.program.now old.query old.heap.changes (length old.notes.items) (reverse links) p (reverse old.points.items) trail (links_are ∙ sym size) notes_are
@@ -123,7 +125,7 @@ module _ (old : code.Engine) (kept : IsKept old) where
       }
 
   -- choices are cut
-  pub goes_cut : (h : ℕ) (new_points : Vec code_point.ChoicePoint Global) → as_points old.notes.items new_points.items ≡ cut_points h (as_points old.notes.items old.points.items) →
+  pub goes_cut : (h : ℕ) (new_points : Vec code_point.ChoicePoint Global) → as_points old.index old.notes.items new_points.items ≡ cut_points h (as_points old.index old.notes.items old.points.items) →
       HasMoments old.program.now old.query old.heap.changes old.notes.items links new_points.items → GoesTo old (length links) (cut h (choices_at old)) (record old { points = new_points })
   goes_cut h new_points is moments =
       let olds = as_links old.notes.items links in
@@ -132,18 +134,18 @@ module _ (old : code.Engine) (kept : IsKept old) where
         heap = refl;
         calls = refl;
         query = refl;
-        choices_are = ap (choices_of old.heap.changes olds old.query) is ∙ cuts old.heap.changes olds old.query h (as_points old.notes.items old.points.items) kept.counted;
+        choices_are = ap (choices_of old.heap.changes olds old.query) is ∙ cuts old.heap.changes olds old.query h (as_points old.index old.notes.items old.points.items) kept.counted;
         tasks = λ j le. refl;
-        kept = record { in_range = kept.in_range; counted = subst AreCounted (sym is) (counted h (as_points old.notes.items old.points.items) kept.counted); moments = moments };
+        kept = record { in_range = kept.in_range; indexed = kept.indexed; counted = subst AreCounted (sym is) (counted h (as_points old.index old.notes.items old.points.items) kept.counted); moments = moments };
         there = omega arith;
       }
 
 -- a mark is exited
-pub goes_exited : (old : code.Engine) (kept : IsKept old) (h : ℕ) (new_points : Vec code_point.ChoicePoint Global) → as_points old.notes.items new_points.items ≡ exit_points h (as_points old.notes.items old.points.items) →
+pub goes_exited : (old : code.Engine) (kept : IsKept old) (h : ℕ) (new_points : Vec code_point.ChoicePoint Global) → as_points old.index old.notes.items new_points.items ≡ exit_points h (as_points old.index old.notes.items old.points.items) →
     HasMoments old.program.now old.query old.heap.changes old.notes.items old.links.items new_points.items → GoesTo old (length old.links.items) (exit_mark (Some h) (choices_at old)) (record old { points = new_points })
 goes_exited old kept h new_points is moments =
     let olds = as_links old.notes.items old.links.items in
-    let points = as_points old.notes.items old.points.items in
+    let points = as_points old.index old.notes.items old.points.items in
     record {
       program = refl;
       heap = refl;
@@ -151,7 +153,7 @@ goes_exited old kept h new_points is moments =
       query = refl;
       choices_are = ap (choices_of old.heap.changes olds old.query) is ∙ exits old.heap.changes olds old.query h points kept.counted;
       tasks = λ j le. refl;
-      kept = record { in_range = kept.in_range; counted = subst AreCounted (sym is) (exit_counted h points kept.counted); moments = moments };
+      kept = record { in_range = kept.in_range; indexed = kept.indexed; counted = subst AreCounted (sym is) (exit_counted h points kept.counted); moments = moments };
       there = omega arith;
     }
 
@@ -159,10 +161,10 @@ goes_exited old kept h new_points is moments =
 pub points_rise : (e : code.Engine) → IsKept e → AreRising e.points.items
 points_rise e kept =
     subst AreRising (reverse-reverse e.points.items)
-    (rising e.program.now e.notes.items e.query e.heap.changes (length e.notes.items) (reverse e.links.items) (reverse e.points.items) kept.moments kept.counted)
+    (rising e.program.now e.index e.notes.items e.query e.heap.changes (length e.notes.items) (reverse e.links.items) (reverse e.points.items) kept.moments kept.counted)
 
-pub mark_is : (e : code.Engine) (h : ℕ) → IsKept e → mark_at_height h (as_points e.notes.items e.points.items) ≡ mark_seen (mark_of (Some h) (choices_at e))
-mark_is e h kept = found_marks e.heap.changes (as_links e.notes.items e.links.items) e.query h (as_points e.notes.items e.points.items) kept.counted
+pub mark_is : (e : code.Engine) (h : ℕ) → IsKept e → mark_at_height h (as_points e.index e.notes.items e.points.items) ≡ mark_seen (mark_of (Some h) (choices_at e))
+mark_is e h kept = found_marks e.heap.changes (as_links e.notes.items e.links.items) e.query h (as_points e.index e.notes.items e.points.items) kept.counted
 
 pub all_noted : (e : code.Engine) → IsKept e → ArePointsNoted (length e.notes.items) e.points.items
 all_noted e kept =

@@ -3,6 +3,7 @@ use Rattle.std.proofs.Common.{◌≤◌, ◌<◌, ◌-◌, ℕ, List, [], ◌∷
 use Rattle.std.proofs.lemmas.List.{reverse-append}
 use Rattle.std.specs.List.{AllByRecursion}
 use Rattle.prog_data.specs.declared.programs.Program.{Program}
+use Rattle.clause_index.specs.declared.keys.Key.{Key}
 use Rattle.term_heap.specs.Changes.{Change, undone}
 use Rattle.engine_state.specs.declared.tasks.Task as code_task
 use Rattle.engine_state.specs.declared.tasks.Task.TheVariants as task
@@ -17,7 +18,7 @@ use Rattle.engine_state.specs.Newest.{AreRising}
 use Rattle.engine_state.specs.Notes.{IsTaskNoted, IsAlternativeNoted, AreLinksNoted, ArePointsNoted}
 use Rattle.engine_state.specs.Moments.{notes_held, IsWide, IsAlternativePlaced, ArePlaced, Moments, MomentsGive}
 use Rattle.engine_state.proofs.EachLaws.{each_of_two, each_reversed}
-use Rattle.engine_state.proofs.PointLaws.{length-places}
+use Rattle.engine_state.proofs.PointLaws.{length-left}
 use Rattle.engine_state.proofs.MomentLaws.{undone_length, left_length, moment_now}
 
 -- more notes
@@ -30,25 +31,25 @@ task_more held more (task.Leaves e) le is = omega (arith, le, is)
 
 pub alternative_more : (held more : ℕ) (a : code_alternative.Alternative) → held ≤ more → IsAlternativeNoted held a → IsAlternativeNoted more a
 alternative_more held more (alternative.Resumes rest) le is = tt
-alternative_more held more (alternative.Retries next end c) le is = omega (arith, le, is)
+alternative_more held more (alternative.Retries key next end c) le is = omega (arith, le, is)
 alternative_more held more (alternative.Marks p conds exited) le is = omega (arith, le, is)
 
 -- choice points that rise
 
-module _ (all : List ℕ) where
+module _ (index : List (List Key)) (all : List ℕ) where
   abbrev as_all : List code_point.ChoicePoint → List ChoicePoint
-  as_all points = map (as_point all) points
+  as_all points = map (as_point index all) points
 
-  width_some : (a : code_alternative.Alternative) → IsWide a → 0 < width (as_alternative all a)
+  width_some : (a : code_alternative.Alternative) → IsWide a → 0 < width (as_alternative index all a)
   width_some (alternative.Resumes rest) wide = omega arith
-  width_some (alternative.Retries next end c) wide = omega (arith, wide, length-places next (end - next))
+  width_some (alternative.Retries key next end c) wide = omega (arith, wide, length-left index c.exit.pred key next end)
   width_some (alternative.Marks p conds exited) wide = omega arith
 
   -- each is below the height
   below_height : (height : ℕ) (points : List code_point.ChoicePoint) → height_of (as_all points) ≤ height → AllByRecursion (λ p. IsWide p.alternative) points → AreCounted (as_all points) → AllByRecursion (λ p. p.below < height) points
   below_height height [] le wide counted = tt
   below_height height (p ∷ ps) le wide counted =
-      let some : 0 < width (as_alternative all p.alternative) = width_some p.alternative wide.0 in
+      let some : 0 < width (as_alternative index all p.alternative) = width_some p.alternative wide.0 in
       (omega (arith, le, some), below_height height ps (omega (arith, le, counted.0)) wide.1 counted.1)
 
   rising_end : (points : List code_point.ChoicePoint) (p : code_point.ChoicePoint) → AreRising points → AllByRecursion (λ q. q.below < p.below) points → AreRising (points ++ p ∷ [])
@@ -64,22 +65,22 @@ module _ (all : List ℕ) where
 -- moments
 
 module _ (program : Program) where
-  pub rest_placed : (all : List ℕ) (cells links : ℕ) (a : code_alternative.Alternative) → IsAlternativePlaced program cells links a → rest_of (as_alternative all a) ≤ links
-  rest_placed all cells links (alternative.Resumes rest) is = is
-  rest_placed all cells links (alternative.Retries next end c) is = is.2
-  rest_placed all cells links (alternative.Marks p conds exited) is = omega arith
+  pub rest_placed : (index : List (List Key)) (all : List ℕ) (cells links : ℕ) (a : code_alternative.Alternative) → IsAlternativePlaced program cells links a → rest_of (as_alternative index all a) ≤ links
+  rest_placed index all cells links (alternative.Resumes rest) is = is
+  rest_placed index all cells links (alternative.Retries key next end c) is = is.2
+  rest_placed index all cells links (alternative.Marks p conds exited) is = omega arith
 
-  pub in_order : (all : List ℕ) (query : ℕ) (changes : List Change) (notes : ℕ) (links : List code_link.Link) (points : List code_point.ChoicePoint) → Moments program query changes notes links points → AreInOrder (length changes) (map (as_point all) points)
-  in_order all query changes notes links [] are = tt
-  in_order all query changes notes links (p ∷ ps) are =
-      (are.1.trail, subst (λ n. AreInOrder n (map (as_point all) ps)) (undone_length p.trail changes are.1.trail) (in_order all query (undone p.trail changes) p.notes (drop (length links - p.links) links) ps are.2))
+  pub in_order : (index : List (List Key)) (all : List ℕ) (query : ℕ) (changes : List Change) (notes : ℕ) (links : List code_link.Link) (points : List code_point.ChoicePoint) → Moments program query changes notes links points → AreInOrder (length changes) (map (as_point index all) points)
+  in_order index all query changes notes links [] are = tt
+  in_order index all query changes notes links (p ∷ ps) are =
+      (are.1.trail, subst (λ n. AreInOrder n (map (as_point index all) ps)) (undone_length p.trail changes are.1.trail) (in_order index all query (undone p.trail changes) p.notes (drop (length links - p.links) links) ps are.2))
 
-  pub held : (all : List ℕ) (query : ℕ) (changes : List Change) (notes : ℕ) (links : List code_link.Link) (points : List code_point.ChoicePoint) → Moments program query changes notes links points → AreHeld (length links) (map (as_point all) points)
-  held all query changes notes links [] are = tt
-  held all query changes notes links (p ∷ ps) are = (
+  pub held : (index : List (List Key)) (all : List ℕ) (query : ℕ) (changes : List Change) (notes : ℕ) (links : List code_link.Link) (points : List code_point.ChoicePoint) → Moments program query changes notes links points → AreHeld (length links) (map (as_point index all) points)
+  held index all query changes notes links [] are = tt
+  held index all query changes notes links (p ∷ ps) are = (
     are.1.fewer_links,
-    rest_placed all _ p.links p.alternative are.1.placed,
-    subst (λ n. AreHeld n (map (as_point all) ps)) (left_length p.links links are.1.fewer_links) (held all query (undone p.trail changes) p.notes (drop (length links - p.links) links) ps are.2),
+    rest_placed index all _ p.links p.alternative are.1.placed,
+    subst (λ n. AreHeld n (map (as_point index all) ps)) (left_length p.links links are.1.fewer_links) (held index all query (undone p.trail changes) p.notes (drop (length links - p.links) links) ps are.2),
   )
 
   placed_down : (cells notes : ℕ) (links : List code_link.Link) → ArePlaced program cells notes links → LeadDown links
@@ -118,8 +119,8 @@ module _ (program : Program) where
   all_wide query changes notes links [] are = tt
   all_wide query changes notes links (p ∷ ps) are = (are.1.wide, all_wide query (undone p.trail changes) p.notes (drop (length links - p.links) links) ps are.2)
 
-  pub rising : (all : List ℕ) (query : ℕ) (changes : List Change) (notes : ℕ) (links : List code_link.Link) (points : List code_point.ChoicePoint) → Moments program query changes notes links points → AreCounted (map (as_point all) points) → AreRising (reverse points)
-  rising all query changes notes links points are counted = rising_all all points (all_wide query changes notes links points are) counted
+  pub rising : (index : List (List Key)) (all : List ℕ) (query : ℕ) (changes : List Change) (notes : ℕ) (links : List code_link.Link) (points : List code_point.ChoicePoint) → Moments program query changes notes links points → AreCounted (map (as_point index all) points) → AreRising (reverse points)
+  rising index all query changes notes links points are counted = rising_all index all points (all_wide query changes notes links points are) counted
 
   pub moments_give : MomentsGive program
   moments_give = record { in_order = in_order; held = held; down = down; links_noted = links_noted; points_noted = points_noted; rising = rising }

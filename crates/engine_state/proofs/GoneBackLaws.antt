@@ -2,6 +2,7 @@
 use Rattle.std.proofs.Common.{◌≡◌, ◌<◌, ◌≤◌, ◌-◌, ℕ, zero, suc, List, [], ◌∷◌, ◌++◌, map, reverse, length, refl, sym, ap, subst, ◌∙◌, arith}
 use Rattle.std.specs.Prelude.{⊤}
 use Rattle.prog_data.specs.declared.programs.Program.{Program}
+use Rattle.clause_index.specs.declared.keys.Key.{Key}
 use Rattle.machine_model.specs.State.{Call, Choice, Try, Failed, State, Going, Over}
 use Rattle.machine_model.specs.Tests.{every_condition}
 use Rattle.machine_model.specs.Step.{failure_step, quietly}
@@ -17,6 +18,7 @@ use Rattle.engine_state.specs.declared.stages.Stage.TheVariants as stage
 use Rattle.prog_data.specs.declared.events.Ending.TheVariants as ending
 use Rattle.engine_state.specs.Engines.{Link, Alternative, ChoicePoint, call_with, alternative_choices, choices_of, as_state}
 use Rattle.engine_state.specs.Views.{as_alternative, as_pending, as_links, as_points}
+use Rattle.engine_state.specs.Selections.{clause_number}
 use Rattle.engine_state.specs.Stacks.{width}
 use Rattle.engine_state.specs.Moments.{IsAlternativePlaced, IsMoment}
 use Rattle.engine_state.specs.Within.{AreLinksWithin, IsAlternativeWithin, IsPointWithin, ArePointsWithin}
@@ -25,7 +27,7 @@ use Rattle.engine_state.specs.Turns.{HasMoved, HasTaken, back_state, HasGoneBack
 use Rattle.engine_state.proofs.ChoiceLaws.{now_choices}
 use Rattle.engine_state.proofs.Composing.{moves_compose}
 use Rattle.engine_state.proofs.MomentLaws.{moment_now}
-use Rattle.engine_state.proofs.PointLaws.{length-places}
+use Rattle.engine_state.proofs.PointLaws.{length-left}
 use Rattle.engine_state.proofs.QuietMoves.{quiet_move, own_after}
 use Rattle.engine_state.proofs.WithinLaws.{variables_within}
 use Rattle.engine_state.proofs.WithinMoments.{links_within, alternative_within, moments_within}
@@ -40,10 +42,10 @@ module _ (e : code.Engine) (a : code_alternative.Alternative) (kept : IsKept e) 
   links = as_links e.notes.items e.links.items
 
   abbrev points : List ChoicePoint
-  points = as_points e.notes.items e.points.items
+  points = as_points e.index e.notes.items e.points.items
 
   abbrev alt : Alternative
-  alt = as_alternative e.notes.items a
+  alt = as_alternative e.index e.notes.items a
 
   are_placed : IsMoment e.program.now e.query (size_of e.heap.changes) (length e.notes.items) (reverse e.links.items)
   are_placed = moment_now e.program.now e.query e.heap.changes (length e.notes.items) (reverse e.links.items) (reverse e.points.items) kept.moments
@@ -52,14 +54,14 @@ module _ (e : code.Engine) (a : code_alternative.Alternative) (kept : IsKept e) 
   within_links = links_within e.program.now e.notes.items (size_of e.heap.changes) (length e.notes.items) (reverse e.links.items) are_placed.1
 
   within_own : IsAlternativeWithin (size_of e.heap.changes) links alt
-  within_own = alternative_within e.program.now e.notes.items e.query e.heap.changes (reverse e.links.items) (size_of e.heap.changes) (length e.links.items) (reverse e.links.items) a within_links (λ j le. refl) placed
+  within_own = alternative_within e.program.now e.notes.items e.index e.query e.heap.changes (reverse e.links.items) (size_of e.heap.changes) (length e.links.items) (reverse e.links.items) a within_links (λ j le. refl) placed
 
   within_point : IsPointWithin e.heap.changes links e.query (point_of (length e.heap.changes) alt)
   within_point =
       subst (λ cs. (e.query < size_of cs) × IsAlternativeWithin (size_of cs) links alt) (sym (undone_here (length e.heap.changes) e.heap.changes (omega arith))) (are_placed.0, within_own)
 
   within_points : ArePointsWithin e.heap.changes links e.query points
-  within_points = (moments_within e.program.now).points_are e.notes.items e.query e.heap.changes (length e.notes.items) (reverse e.links.items) (reverse e.points.items) kept.moments
+  within_points = (moments_within e.program.now).points_are e.index e.notes.items e.query e.heap.changes (length e.notes.items) (reverse e.links.items) (reverse e.points.items) kept.moments
 
   pub all_below : AreBelow (size_of e.heap.changes) (alternative_choices (value_of e.heap.changes) links e.query alt ++ choices_at e)
   all_below =
@@ -83,12 +85,13 @@ gone_back old new a found at taken made =
     }
 
 -- where the newest choice is a clause of a call, it is to be tried
-pub before_clause : (e : code.Engine) (next end : ℕ) (c : code_pending.Pending) → next < end → width (as_alternative e.notes.items (alternative.Retries next end c)) ≤ 1 → back_state e (alternative.Retries next end c)
-    ≡ before_try e.calls (size_of e.heap.changes) next (call_with (value_of e.heap.changes) (tasks_at e c.rest) e.query (as_pending e.notes.items c)) (choices_at e)
-before_clause e next end c less single =
-    let one : end - next ≡ suc zero = omega (arith, less, single, length-places next (end - next)) in
+pub before_clause : (e : code.Engine) (key : Key) (next end : ℕ) (c : code_pending.Pending) → next < end → width (as_alternative e.index e.notes.items (alternative.Retries key next end c)) ≤ 1 → back_state e (alternative.Retries key next end c)
+    ≡ before_try e.calls (size_of e.heap.changes) (clause_number e.index c.exit.pred key next) (call_with (value_of e.heap.changes) (tasks_at e c.rest) e.query (as_pending e.notes.items c)) (choices_at e)
+before_clause e key next end c less single =
+    let one : end - next ≡ suc zero = omega (arith, less, single, length-left e.index c.exit.pred key next end) in
+    let number = clause_number e.index c.exit.pred key in
     let call : Call = call_with (value_of e.heap.changes) (tasks_at e c.rest) e.query (as_pending e.notes.items c) in
-    ap (λ n. record { calls = e.calls; fresh = size_of e.heap.changes; choices = map (λ k. Try k call) (places next n) ++ choices_at e; current = Failed }) one
+    ap (λ n. record { calls = e.calls; fresh = size_of e.heap.changes; choices = map (λ k. Try k call) (map number (places next n)) ++ choices_at e; current = Failed }) one
 
 -- where no choice is left the run is over
 pub none_moved : (old new : code.Engine) → new.program.now ≡ old.program.now → choices_at old ≡ [] → HasMoved old (as_state (as_engine old) Failed) new (stage.Over ending.NoMore)

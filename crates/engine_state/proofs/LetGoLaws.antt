@@ -91,7 +91,7 @@ module _ (program : Program) (query : ℕ) (changes : List Change) where
       let same_links : as_links new_notes new_links ≡ as_links notes new_links = subst (λ ns. as_links ns new_links ≡ as_links notes new_links) front (notes_stay.links n notes [] new_links few links_noted) in
       record {
         chains = λ j under. ap (λ ls. chain ls j) same_links ∙ ap (λ ls. chain (as_links notes ls) j) is_links ∙ kept_chain notes m links j enough (omega (arith, under, is_m));
-        points_are = subst (λ ns. as_points ns points ≡ as_points notes points) front (notes_stay.points n notes [] points few points_noted);
+        points_are = λ index. subst (λ ns. as_points index ns points ≡ as_points index notes points) front (notes_stay.points index n notes [] points few points_noted);
         there = omega (arith, long, is_m);
         moments = subst (λ k. Moments program query changes k (reverse new_links) (reverse points)) (sym notes_size)
             (let_go program query changes (length notes) n 0 (reverse new_links) (reverse points) (omega arith) (omega (arith, still)) (omega (arith, is_n)) (omega (arith, is_n)) left);

@@ -4,6 +4,7 @@ use Rattle.std.specs.Prelude.{if◌then◌else◌, slice_set}
 use Rattle.std.proofs.lemmas.Bool.{eq-eqb, ne_eqb}
 use Rattle.std.proofs.lemmas.List.{length-append, append_assoc, append-nil, reverse-append, map-append, take-append-drop, length-take-le, drop_more, get_or_at, set_at}
 use Rattle.std.specs.List.{AllByRecursion}
+use Rattle.clause_index.specs.declared.keys.Key.{Key}
 use Rattle.engine_state.specs.declared.points.ChoicePoint as code
 use Rattle.engine_state.specs.Engines.{ChoicePoint}
 use Rattle.engine_state.specs.Stacks.{no_mark, mark_in, mark_at_height, exited_alternative, exit_points}
@@ -89,56 +90,56 @@ module _ (height : ℕ) where
   reverse_elsewhere [] are = tt
   reverse_elsewhere (x ∷ xs) are = subst (AreElsewhere height) (sym (reverse-append (x ∷ []) xs)) (both_elsewhere (reverse xs) (x ∷ []) (reverse_elsewhere xs are.1) (are.0, tt))
 
-  module _ (notes : List ℕ) where
-    exit_past : (newer : List code.ChoicePoint) (rest : List ChoicePoint) → AreElsewhere height newer → exit_points height (map (as_point notes) newer ++ rest) ≡ map (as_point notes) newer ++ exit_points height rest
+  module _ (index : List (List Key)) (notes : List ℕ) where
+    exit_past : (newer : List code.ChoicePoint) (rest : List ChoicePoint) → AreElsewhere height newer → exit_points height (map (as_point index notes) newer ++ rest) ≡ map (as_point index notes) newer ++ exit_points height rest
     exit_past [] rest are = refl
     exit_past (p ∷ newer) rest are =
-        ap (λ b. if b then record (as_point notes p) { alternative = exited_alternative (as_alternative notes p.alternative) } ∷ (map (as_point notes) newer ++ rest) else as_point notes p ∷ exit_points height (map (as_point notes) newer ++ rest)) (ne_eqb height p.below are.0)
-        ∙ ap (λ ps. as_point notes p ∷ ps) (exit_past newer rest are.1)
+        ap (λ b. if b then record (as_point index notes p) { alternative = exited_alternative (as_alternative index notes p.alternative) } ∷ (map (as_point index notes) newer ++ rest) else as_point index notes p ∷ exit_points height (map (as_point index notes) newer ++ rest)) (ne_eqb height p.below are.0)
+        ∙ ap (λ ps. as_point index notes p ∷ ps) (exit_past newer rest are.1)
 
-    pub exit_nowhere : (points : List code.ChoicePoint) → AreElsewhere height points → as_points notes points ≡ exit_points height (as_points notes points)
+    pub exit_nowhere : (points : List code.ChoicePoint) → AreElsewhere height points → as_points index notes points ≡ exit_points height (as_points index notes points)
     exit_nowhere points are =
-        let all = map (as_point notes) (reverse points) in
+        let all = map (as_point index notes) (reverse points) in
         sym (append-nil all) ∙ sym (exit_past (reverse points) [] (reverse_elsewhere points are)) ∙ ap (exit_points height) (append-nil all)
 
-    parts_are : (older newer : List code.ChoicePoint) (p : code.ChoicePoint) → as_points notes (older ++ p ∷ newer) ≡ map (as_point notes) (reverse newer) ++ as_point notes p ∷ as_points notes older
+    parts_are : (older newer : List code.ChoicePoint) (p : code.ChoicePoint) → as_points index notes (older ++ p ∷ newer) ≡ map (as_point index notes) (reverse newer) ++ as_point index notes p ∷ as_points index notes older
     parts_are older newer p =
-        ap (map (as_point notes)) (reverse-append older (p ∷ newer) ∙ ap (λ ps. ps ++ reverse older) (reverse-append (p ∷ []) newer) ∙ append_assoc (reverse newer) (p ∷ []) (reverse older))
-        ∙ map-append (as_point notes) (reverse newer) (p ∷ reverse older)
+        ap (map (as_point index notes)) (reverse-append older (p ∷ newer) ∙ ap (λ ps. ps ++ reverse older) (reverse-append (p ∷ []) newer) ∙ append_assoc (reverse newer) (p ∷ []) (reverse older))
+        ∙ map-append (as_point index notes) (reverse newer) (p ∷ reverse older)
 
     pub exit_found : (points new : List code.ChoicePoint) (place : ℕ) (p q d : code.ChoicePoint) → IsFound height points place → p ≡ get_or points place d → new ≡ slice_set points place q →
-        as_point notes q ≡ record (as_point notes p) { alternative = exited_alternative (as_alternative notes p.alternative) } → as_points notes new ≡ exit_points height (as_points notes points)
+        as_point index notes q ≡ record (as_point index notes p) { alternative = exited_alternative (as_alternative index notes p.alternative) } → as_points index notes new ≡ exit_points height (as_points index notes points)
     exit_found points new place p q d at is_p is_new is_q =
-        let newer = map (as_point notes) (reverse at.newer) in
-        let older = as_points notes at.older in
+        let newer = map (as_point index notes) (reverse at.newer) in
+        let older = as_points index notes at.older in
         let same : p ≡ at.found = is_p ∙ found_is points place d at in
-        let x = as_point notes at.found in
-        let exited_q : as_point notes q ≡ record x { alternative = exited_alternative x.alternative } = is_q ∙ ap (λ r. record (as_point notes r) { alternative = exited_alternative (as_alternative notes r.alternative) }) same in
-        ap (as_points notes) (is_new ∙ ap (λ ps. slice_set ps place q) at.is ∙ set_at at.older at.found at.newer q place at.place_is)
+        let x = as_point index notes at.found in
+        let exited_q : as_point index notes q ≡ record x { alternative = exited_alternative x.alternative } = is_q ∙ ap (λ r. record (as_point index notes r) { alternative = exited_alternative (as_alternative index notes r.alternative) }) same in
+        ap (as_points index notes) (is_new ∙ ap (λ ps. slice_set ps place q) at.is ∙ set_at at.older at.found at.newer q place at.place_is)
         ∙ parts_are at.older at.newer q
         ∙ ap (λ r. newer ++ r ∷ older) exited_q
-        ∙ sym (ap (exit_points height) (ap (as_points notes) at.is ∙ parts_are at.older at.newer at.found)
+        ∙ sym (ap (exit_points height) (ap (as_points index notes) at.is ∙ parts_are at.older at.newer at.found)
         ∙ exit_past (reverse at.newer) (x ∷ older) (reverse_elsewhere at.newer at.others)
         ∙ ap (λ b. newer ++ (if b then record x { alternative = exited_alternative x.alternative } ∷ older else x ∷ exit_points height older)) (eq-eqb height at.found.below at.below))
 
     -- marks that are looked at
 
-    seen_past : (newer : List code.ChoicePoint) (rest : List ChoicePoint) → AreElsewhere height newer → mark_at_height height (map (as_point notes) newer ++ rest) ≡ mark_at_height height rest
+    seen_past : (newer : List code.ChoicePoint) (rest : List ChoicePoint) → AreElsewhere height newer → mark_at_height height (map (as_point index notes) newer ++ rest) ≡ mark_at_height height rest
     seen_past [] rest are = refl
     seen_past (p ∷ newer) rest are =
-        ap (λ b. if b then mark_in (as_alternative notes p.alternative) else mark_at_height height (map (as_point notes) newer ++ rest)) (ne_eqb height p.below are.0) ∙ seen_past newer rest are.1
+        ap (λ b. if b then mark_in (as_alternative index notes p.alternative) else mark_at_height height (map (as_point index notes) newer ++ rest)) (ne_eqb height p.below are.0) ∙ seen_past newer rest are.1
 
-    pub seen_nowhere : (points : List code.ChoicePoint) → AreElsewhere height points → no_mark ≡ mark_at_height height (as_points notes points)
+    pub seen_nowhere : (points : List code.ChoicePoint) → AreElsewhere height points → no_mark ≡ mark_at_height height (as_points index notes points)
     seen_nowhere points are =
-        let all = map (as_point notes) (reverse points) in
+        let all = map (as_point index notes) (reverse points) in
         sym (ap (mark_at_height height) (sym (append-nil all)) ∙ seen_past (reverse points) [] (reverse_elsewhere points are))
 
-    pub seen_found : (points : List code.ChoicePoint) (place : ℕ) (p d : code.ChoicePoint) → IsFound height points place → p ≡ get_or points place d → mark_in (as_alternative notes p.alternative) ≡ mark_at_height height (as_points notes points)
+    pub seen_found : (points : List code.ChoicePoint) (place : ℕ) (p d : code.ChoicePoint) → IsFound height points place → p ≡ get_or points place d → mark_in (as_alternative index notes p.alternative) ≡ mark_at_height height (as_points index notes points)
     seen_found points place p d at is_p =
-        let older = as_points notes at.older in
-        let x = as_point notes at.found in
-        ap (λ r. mark_in (as_alternative notes r.alternative)) (is_p ∙ found_is points place d at)
-        ∙ sym (ap (mark_at_height height) (ap (as_points notes) at.is ∙ parts_are at.older at.newer at.found)
+        let older = as_points index notes at.older in
+        let x = as_point index notes at.found in
+        ap (λ r. mark_in (as_alternative index notes r.alternative)) (is_p ∙ found_is points place d at)
+        ∙ sym (ap (mark_at_height height) (ap (as_points index notes) at.is ∙ parts_are at.older at.newer at.found)
         ∙ seen_past (reverse at.newer) (x ∷ older) (reverse_elsewhere at.newer at.others)
         ∙ ap (λ b. if b then mark_in x.alternative else mark_at_height height older) (eq-eqb height at.found.below at.below))
 

@@ -2,13 +2,14 @@
 use Rattle.std.proofs.Common.{◌≡◌, ◌≤◌, ◌+◌, ◌-◌, ℕ, List, [], ◌∷◌, ◌++◌, map, length, take, drop, reverse, refl, sym, ap, ◌∙◌, arith}
 use Rattle.std.proofs.lemmas.List.{length-drop, length-take-le, drop-append-le, drop-take, take-append-le, take-take, reverse-append, map-append}
 use Rattle.std.specs.List.{AllByRecursion}
+use Rattle.clause_index.specs.declared.keys.Key.{Key}
 use Rattle.engine_state.specs.declared.tasks.Row.{Row}
 use Rattle.engine_state.specs.declared.tasks.Task as code_task
 use Rattle.engine_state.specs.declared.tasks.Task.TheVariants as task
 use Rattle.engine_state.specs.declared.points.Alternative as code_alternative
 use Rattle.engine_state.specs.declared.points.Alternative.TheVariants as alternative
 use Rattle.engine_state.specs.Engines.{Leaves, Retries, Marks}
-use Rattle.term_heap.specs.Changes.{places}
+use Rattle.engine_state.specs.Selections.{clauses_left}
 use Rattle.engine_state.specs.Views.{row_of, as_exit, as_task, as_link, as_alternative, as_point}
 use Rattle.engine_state.specs.Notes.{IsRowWithin, IsTaskNoted, IsAlternativeNoted, NotesStay}
 
@@ -41,11 +42,11 @@ module _ (held : ℕ) (old more : List ℕ) (enough : held ≤ length old) where
   task_stays (task.Fails h place) within = refl
   task_stays (task.Leaves e) within = ap (λ noted. Leaves (record (as_exit old e) { noted = noted })) (row_stays e.noted within)
 
-  alternative_stays : (a : code_alternative.Alternative) → IsAlternativeNoted held a → as_alternative new a ≡ as_alternative old a
-  alternative_stays (alternative.Resumes rest) within = refl
-  alternative_stays (alternative.Retries next end c) within =
-      ap (λ noted. Retries (places next (end - next)) (record { exit = record (as_exit old c.exit) { noted = noted }; height = c.height; rest = c.rest })) (row_stays c.exit.noted within)
-  alternative_stays (alternative.Marks p conds exited) within = ap (λ noted. Marks p noted exited) (row_stays conds within)
+  alternative_stays : (index : List (List Key)) (a : code_alternative.Alternative) → IsAlternativeNoted held a → as_alternative index new a ≡ as_alternative index old a
+  alternative_stays index (alternative.Resumes rest) within = refl
+  alternative_stays index (alternative.Retries key next end c) within =
+      ap (λ noted. Retries (clauses_left index c.exit.pred key next end) (record { exit = record (as_exit old c.exit) { noted = noted }; height = c.height; rest = c.rest })) (row_stays c.exit.noted within)
+  alternative_stays index (alternative.Marks p conds exited) within = ap (λ noted. Marks p noted exited) (row_stays conds within)
 
 -- a map over a list in reverse
 reversed_same : {X Y : Type 0} (f g : X → Y) (P : X → Type 0) (xs : List X) → ((x : X) → P x → f x ≡ g x) → AllByRecursion P xs → map f (reverse xs) ≡ map g (reverse xs)
@@ -60,7 +61,7 @@ notes_stay = record {
   rows = λ held old more row enough within. row_stays held old more enough row within;
   links = λ held old more items enough all.
       reversed_same (as_link (take held old ++ more)) (as_link old) (λ l. IsTaskNoted held l.task) items (λ l within. ap (λ t. record { task = t; next = l.next }) (task_stays held old more enough l.task within)) all;
-  points = λ held old more items enough all.
-      reversed_same (as_point (take held old ++ more)) (as_point old) (λ p. IsAlternativeNoted held p.alternative) items
-      (λ p within. ap (λ a. record { trail = p.trail; links = p.links; below = p.below; alternative = a }) (alternative_stays held old more enough p.alternative within)) all;
+  points = λ index held old more items enough all.
+      reversed_same (as_point index (take held old ++ more)) (as_point index old) (λ p. IsAlternativeNoted held p.alternative) items
+      (λ p within. ap (λ a. record { trail = p.trail; links = p.links; below = p.below; alternative = a }) (alternative_stays held old more enough index p.alternative within)) all;
 }

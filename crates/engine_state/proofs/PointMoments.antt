@@ -3,6 +3,7 @@ use Rattle.std.proofs.Common.{◌≡◌, ◌≤◌, ◌<◌, ◌+◌, ◌-◌, �
 use Rattle.std.specs.Prelude.{slice_set}
 use Rattle.std.proofs.lemmas.List.{reverse-append, length-reverse, set_at, append_assoc}
 use Rattle.prog_data.specs.declared.programs.Program.{Program}
+use Rattle.clause_index.specs.declared.keys.Key.{Key}
 use Rattle.term_heap.specs.Changes.{Change, size_of, undone}
 use Rattle.engine_state.specs.declared.tasks.Link as code_link
 use Rattle.engine_state.specs.declared.points.Pending as code_pending
@@ -22,8 +23,8 @@ module _ (program : Program) where
   pub may_stay : (a : code_alternative.Alternative) → MayBecome program a a
   may_stay a = record { placed = λ cells links is. is; noted = λ held is. is; wide = λ is. is }
 
-  pub may_shorten : (next end left new : ℕ) (c : code_pending.Pending) → new ≡ max next (end - left) → 0 < left → MayBecome program (alternative.Retries next end c) (alternative.Retries new end c)
-  may_shorten next end left new c is some = record { placed = λ cells links are. are; noted = λ held is. is; wide = λ less. omega (arith, is, some, less) }
+  pub may_shorten : (key : Key) (next end left new : ℕ) (c : code_pending.Pending) → new ≡ max next (end - left) → 0 < left → MayBecome program (alternative.Retries key next end c) (alternative.Retries key new end c)
+  may_shorten key next end left new c is some = record { placed = λ cells links are. are; noted = λ held is. is; wide = λ less. omega (arith, is, some, less) }
 
   pub may_exit : (p : ℕ) (conds : _) (exited now : _) → MayBecome program (alternative.Marks p conds exited) (alternative.Marks p conds now)
   may_exit p conds exited now = record { placed = λ cells links is. is; noted = λ held is. is; wide = λ is. is }
@@ -70,26 +71,26 @@ module _ (program : Program) where
         -- the newest was taken off
         pub popped : new ≡ take (length points - 1) points → Have points → Have new
         popped is are =
-            subst Have (sym (older_are notes points p at_end new is)) (off program query changes (length notes) (reverse links) p older (with_newest are))
+            subst Have (sym (older_are points p at_end new is)) (off program query changes (length notes) (reverse links) p older (with_newest are))
 
         pub popped_back : new ≡ take (length points - 1) points → Have points → HasItsMoment program query changes notes links p new
         popped_back is are =
-            subst (HasItsMoment program query changes notes links p) (sym (older_are notes points p at_end new is))
+            subst (HasItsMoment program query changes notes links p) (sym (older_are points p at_end new is))
             (let were = with_newest are in
             let size : length (reverse links) ≡ length links = length-reverse links in
             record { before = were.1; moments = subst (λ n. Moments program query (undone p.trail changes) p.notes (drop (n - p.links) (reverse links)) older) size were.2 })
 
         -- another one stands in its place
         replaced : (q : code_point.ChoicePoint) (n : ℕ) → n + 1 ≡ length points → new ≡ slice_set points n q → new ≡ at_end.older ++ q ∷ []
-        replaced q n size is = is ∙ ap (λ ps. slice_set ps n q) at_end.is ∙ set_at at_end.older p [] q n (omega (arith, size, size_is notes points p at_end))
+        replaced q n size is = is ∙ ap (λ ps. slice_set ps n q) at_end.is ∙ set_at at_end.older p [] q n (omega (arith, size, size_is points p at_end))
 
         pub changed : (q : code_point.ChoicePoint) (n : ℕ) (a : code_alternative.Alternative) → n + 1 ≡ length points → new ≡ slice_set points n q → q ≡ record p { alternative = a } → MayBecome program p.alternative a → Have points → Have new
         changed q n a size is is_q may are =
             let is_new : reverse new ≡ record p { alternative = a } ∷ older = ap reverse (replaced q n size is) ∙ reverse-append at_end.older (q ∷ []) ∙ ap (λ x. x ∷ older) is_q in
             subst (Moments program query changes (length notes) (reverse links)) (sym is_new) (with_other changes (length notes) (reverse links) p older a may (with_newest are))
 
-        module _ (next end : ℕ) (c : code_pending.Pending) (is_p : p.alternative ≡ alternative.Retries next end c) (q r : code_point.ChoicePoint) (n : ℕ) (size : n + 1 ≡ length points) (is_new : new ≡ slice_set points n q)
-            (is_q : q ≡ record p { alternative = alternative.Retries (next + 1) end c }) (is_r : r ≡ record p { alternative = alternative.Retries next (next + 1) c }) (more : 1 < end - next) where
+        module _ (key : Key) (next end : ℕ) (c : code_pending.Pending) (is_p : p.alternative ≡ alternative.Retries key next end c) (q r : code_point.ChoicePoint) (n : ℕ) (size : n + 1 ≡ length points) (is_new : new ≡ slice_set points n q)
+            (is_q : q ≡ record p { alternative = alternative.Retries key (next + 1) end c }) (is_r : r ≡ record p { alternative = alternative.Retries key next (next + 1) c }) (more : 1 < end - next) where
           -- one clause was taken off
           pub clause_back : Have points → HasItsMoment program query changes notes links r new
           clause_back are =
@@ -100,8 +101,8 @@ module _ (program : Program) where
               let left : List code_link.Link = drop (length (reverse links) - p.links) (reverse links) in
               let placed = subst (λ a. IsAlternativePlaced program (size_of moment) p.links a) is_p were.1.placed in
               let noted = subst (IsAlternativeNoted p.notes) is_p were.1.noted in
-              let first : code_point.ChoicePoint = record p { alternative = alternative.Retries next (next + 1) c } in
-              let rest : code_point.ChoicePoint = record p { alternative = alternative.Retries (next + 1) end c } in
+              let first : code_point.ChoicePoint = record p { alternative = alternative.Retries key next (next + 1) c } in
+              let rest : code_point.ChoicePoint = record p { alternative = alternative.Retries key (next + 1) end c } in
               let links_are : length left ≡ p.links = left_length p.links (reverse links) fewer in
               let rest_moments : Moments program query moment p.notes left (rest ∷ older) =
               made program query moment p.notes left rest older (sym (undone_length p.trail changes trail)) (sym links_are) refl

@@ -12,6 +12,7 @@ pub mod Moves
 pub mod Newest
 pub mod Notes
 pub mod PointMoves
+pub mod Selections
 pub mod Stacks
 pub mod Stages
 pub mod StepsMade

@@ -5,6 +5,8 @@ use Rattle.prog_data.specs.declared.goals.Goal.{Goal}
 use Rattle.prog_data.specs.declared.programs.Program.{Program}
 use Rattle.prog_data.specs.Goals.{pred_of}
 use Rattle.prog_data.specs.Ranges.{is_goal_of, is_pred_of}
+use Rattle.clause_index.specs.declared.keys.Key.{Key}
+use Rattle.clause_index.specs.Selected.{program_keys}
 use Rattle.term_heap.specs.Changes.{Change, size_of, undone}
 use Rattle.engine_state.specs.declared.tasks.Row.{Row}
 use Rattle.engine_state.specs.declared.tasks.Exit as code_exit
@@ -15,6 +17,7 @@ use Rattle.engine_state.specs.declared.points.Alternative as code_alternative
 use Rattle.engine_state.specs.declared.points.Alternative.TheVariants as alternative
 use Rattle.engine_state.specs.declared.points.ChoicePoint as code_point
 use Rattle.engine_state.specs.Engines.{AreInOrder, AreHeld}
+use Rattle.engine_state.specs.Selections.{selected_at}
 use Rattle.engine_state.specs.Stacks.{AreCounted}
 use Rattle.engine_state.specs.Views.{as_point, LeadDown}
 use Rattle.engine_state.specs.Newest.{AreRising}
@@ -47,7 +50,7 @@ notes_used (l ∷ older) = l.notes
 -- an alternative stands for one choice at least
 abbrev pub IsWide : code_alternative.Alternative → Type 0
 IsWide (alternative.Resumes rest) = ⊤
-IsWide (alternative.Retries next end c) = next < end
+IsWide (alternative.Retries key next end c) = next < end
 IsWide (alternative.Marks p conds exited) = ⊤
 
 module _ (program : Program) where
@@ -74,10 +77,10 @@ module _ (program : Program) where
     pub noted : IsTaskNoted notes l.task
     pub next : l.next ≤ links
 
-  -- an alternative has its cells among so many, its link among so many, and its clauses among those of its predicate
+  -- an alternative has its cells among so many, its link among so many, and its clauses among those that are selected
   abbrev pub IsAlternativePlaced : (cells links : ℕ) → code_alternative.Alternative → Type 0
   IsAlternativePlaced cells links (alternative.Resumes rest) = rest ≤ links
-  IsAlternativePlaced cells links (alternative.Retries next end c) = IsCallPlaced cells c.exit.pred c.exit.args × (end ≤ length (pred_of program c.exit.pred).clauses) × (c.rest ≤ links)
+  IsAlternativePlaced cells links (alternative.Retries key next end c) = IsCallPlaced cells c.exit.pred c.exit.args × (end ≤ length (selected_at (program_keys program) c.exit.pred key)) × (c.rest ≤ links)
   IsAlternativePlaced cells links (alternative.Marks p conds exited) = ⊤
 
   -- links lead down, their cells are among so many, and their notes among so many that no older one has more; the newest stands first
@@ -141,9 +144,9 @@ pub record MomentsStay (program : Program) : Type 0 where
 
 -- what follows of choice points and links that have their moments
 pub record MomentsGive (program : Program) : Type 0 where
-  pub in_order : (all : List ℕ) (query : ℕ) (changes : List Change) (notes : ℕ) (links : List code_link.Link) (points : List code_point.ChoicePoint) → Moments program query changes notes links points → AreInOrder (length changes) (map (as_point all) points)
-  pub held : (all : List ℕ) (query : ℕ) (changes : List Change) (notes : ℕ) (links : List code_link.Link) (points : List code_point.ChoicePoint) → Moments program query changes notes links points → AreHeld (length links) (map (as_point all) points)
+  pub in_order : (index : List (List Key)) (all : List ℕ) (query : ℕ) (changes : List Change) (notes : ℕ) (links : List code_link.Link) (points : List code_point.ChoicePoint) → Moments program query changes notes links points → AreInOrder (length changes) (map (as_point index all) points)
+  pub held : (index : List (List Key)) (all : List ℕ) (query : ℕ) (changes : List Change) (notes : ℕ) (links : List code_link.Link) (points : List code_point.ChoicePoint) → Moments program query changes notes links points → AreHeld (length links) (map (as_point index all) points)
   pub down : (query : ℕ) (changes : List Change) (notes : ℕ) (links : List code_link.Link) (points : List code_point.ChoicePoint) → Moments program query changes notes links points → LeadDown links
   pub links_noted : (query : ℕ) (changes : List Change) (notes : ℕ) (links : List code_link.Link) (points : List code_point.ChoicePoint) → Moments program query changes notes links points → AreLinksNoted notes links
   pub points_noted : (query : ℕ) (changes : List Change) (notes : ℕ) (links : List code_link.Link) (points : List code_point.ChoicePoint) → Moments program query changes notes links points → ArePointsNoted notes points
-  pub rising : (all : List ℕ) (query : ℕ) (changes : List Change) (notes : ℕ) (links : List code_link.Link) (points : List code_point.ChoicePoint) → Moments program query changes notes links points → AreCounted (map (as_point all) points) → AreRising (reverse points)
+  pub rising : (index : List (List Key)) (all : List ℕ) (query : ℕ) (changes : List Change) (notes : ℕ) (links : List code_link.Link) (points : List code_point.ChoicePoint) → Moments program query changes notes links points → AreCounted (map (as_point index all) points) → AreRising (reverse points)

@@ -2,6 +2,7 @@
 -- The headline does not rest on this file.
 use Rattle.std.specs.Prelude.{◌≡◌, ◌≤◌, ◌+◌, ℕ, List, ◌++◌, take, length, ⊤}
 use Rattle.std.specs.List.{AllByRecursion}
+use Rattle.clause_index.specs.declared.keys.Key.{Key}
 use Rattle.engine_state.specs.declared.tasks.Row.{Row}
 use Rattle.engine_state.specs.declared.tasks.Task as code_task
 use Rattle.engine_state.specs.declared.tasks.Task.TheVariants as task
@@ -25,7 +26,7 @@ IsTaskNoted held (task.Leaves e) = IsRowWithin held e.noted
 -- so of an alternative
 abbrev pub IsAlternativeNoted : ℕ → code_alternative.Alternative → Type 0
 IsAlternativeNoted held (alternative.Resumes rest) = ⊤
-IsAlternativeNoted held (alternative.Retries next end c) = IsRowWithin held c.exit.noted
+IsAlternativeNoted held (alternative.Retries key next end c) = IsRowWithin held c.exit.noted
 IsAlternativeNoted held (alternative.Marks p conds exited) = IsRowWithin held conds
 
 -- so of links
@@ -40,4 +41,4 @@ ArePointsNoted held points = AllByRecursion (λ p. IsAlternativeNoted held p.alt
 pub record NotesStay : Type 0 where
   pub rows : (held : ℕ) (old more : List ℕ) (row : Row) → held ≤ length old → IsRowWithin held row → row_of (take held old ++ more) row ≡ row_of old row
   pub links : (held : ℕ) (old more : List ℕ) (items : List code_link.Link) → held ≤ length old → AreLinksNoted held items → as_links (take held old ++ more) items ≡ as_links old items
-  pub points : (held : ℕ) (old more : List ℕ) (items : List code_point.ChoicePoint) → held ≤ length old → ArePointsNoted held items → as_points (take held old ++ more) items ≡ as_points old items
+  pub points : (index : List (List Key)) (held : ℕ) (old more : List ℕ) (items : List code_point.ChoicePoint) → held ≤ length old → ArePointsNoted held items → as_points index (take held old ++ more) items ≡ as_points index old items

@@ -1,12 +1,13 @@
 -- Where a run is, by what the engine holds and what is in hand, and what it keeps.
 -- The headline does not rest on this file.
-use Rattle.std.specs.Prelude.{◌≤◌, ℕ, List, ◌∷◌, map, length, Option, None, Some, ⊤}
+use Rattle.std.specs.Prelude.{◌≡◌, ◌≤◌, ℕ, List, ◌∷◌, map, length, Option, None, Some, ⊤}
 use Rattle.prog_data.specs.declared.goals.Goal.{Goal}
 use Rattle.prog_data.specs.declared.goals.Goal as goal
 use Rattle.prog_data.specs.declared.programs.Place.{Place}
 use Rattle.prog_data.specs.Programs.{IsProgram}
 use Rattle.machine_model.specs.State.{Does, Frame, Choice, Doing, Failed, State, Phase, Going, Over}
 use Rattle.machine_model.specs.Leaner.{IsLeaner}
+use Rattle.clause_index.specs.Selected.{program_keys}
 use Rattle.term_heap.specs.Changes.{size_of, value_of, places}
 use Rattle.engine_state.specs.declared.tasks.Row.{Row}
 use Rattle.engine_state.specs.declared.engine.Engine as code
@@ -20,11 +21,11 @@ use Rattle.engine_state.specs.Moments.{IsCallPlaced, IsGoalPlaced, HasMoments}
 
 -- the engine that the code's is
 abbrev pub as_engine : code.Engine → Engine
-as_engine e = record { calls = e.calls; changes = e.heap.changes; links = as_links e.notes.items e.links.items; points = as_points e.notes.items e.points.items; query = e.query }
+as_engine e = record { calls = e.calls; changes = e.heap.changes; links = as_links e.notes.items e.links.items; points = as_points e.index e.notes.items e.points.items; query = e.query }
 
 -- its choices
 abbrev pub choices_at : code.Engine → List Choice
-choices_at e = choices_of e.heap.changes (as_links e.notes.items e.links.items) e.query (as_points e.notes.items e.points.items)
+choices_at e = choices_of e.heap.changes (as_links e.notes.items e.links.items) e.query (as_points e.index e.notes.items e.points.items)
 
 -- its tasks from a link on
 abbrev pub tasks_at : code.Engine → ℕ → List Task
@@ -56,10 +57,11 @@ phase_of e stage.Failed = Some (Going (as_state (as_engine e) Failed))
 phase_of e (stage.Over ending) = Some (Over ending)
 phase_of e stage.Stuck = None
 
--- what an engine keeps: its program is in range, choice points count the choices below them, and links and choice points have their moments
+-- what an engine keeps: its program is in range and has this index, choice points count the choices below them, and links and choice points have their moments
 pub record IsKept (e : code.Engine) : Type 0 where
   pub in_range : IsProgram e.program.now
-  pub counted : AreCounted (as_points e.notes.items e.points.items)
+  pub indexed : e.index ≡ program_keys e.program.now
+  pub counted : AreCounted (as_points e.index e.notes.items e.points.items)
   pub moments : HasMoments e.program.now e.query e.heap.changes e.notes.items e.links.items e.points.items
 
 -- an engine keeps that, this state of it has its heights and its variables in order, and so it is with what is in hand

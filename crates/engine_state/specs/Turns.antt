@@ -56,8 +56,8 @@ pub record HasTaken (old : code.Engine) (a : code_alternative.Alternative) (new 
   pub calls : new.calls ≡ old.calls
   pub query : new.query ≡ old.query
   pub past : (n : ℕ) × (new.heap.changes ≡ undone n old.heap.changes)
-  pub choices : choices_at old ≡ alternative_choices (value_of new.heap.changes) (as_links new.notes.items new.links.items) new.query (as_alternative new.notes.items a) ++ choices_at new
-  pub single : width (as_alternative new.notes.items a) ≤ 1
+  pub choices : choices_at old ≡ alternative_choices (value_of new.heap.changes) (as_links new.notes.items new.links.items) new.query (as_alternative new.index new.notes.items a) ++ choices_at new
+  pub single : width (as_alternative new.index new.notes.items a) ≤ 1
   pub kept : IsKept new
   pub placed : IsAlternativePlaced new.program.now (size_of new.heap.changes) (length new.links.items) a
   pub noted : IsAlternativeNoted (length new.notes.items) a
@@ -68,7 +68,7 @@ abbrev pub back_state : code.Engine → code_alternative.Alternative → State
 back_state e a = record {
   calls = e.calls;
   fresh = size_of e.heap.changes;
-  choices = alternative_choices (value_of e.heap.changes) (as_links e.notes.items e.links.items) e.query (as_alternative e.notes.items a) ++ choices_at e;
+  choices = alternative_choices (value_of e.heap.changes) (as_links e.notes.items e.links.items) e.query (as_alternative e.index e.notes.items a) ++ choices_at e;
   current = Failed;
 }
 

@@ -1,8 +1,8 @@
 -- The links and choice points that the code's are: its last is the newest.
 -- The headline does not rest on this file.
-use Rattle.std.specs.Prelude.{◌≤◌, ℕ, ◌-◌, List, [], ◌∷◌, map, take, drop, length, reverse, ⊤}
+use Rattle.std.specs.Prelude.{◌≤◌, ℕ, List, [], ◌∷◌, map, take, drop, length, reverse, ⊤}
 use Rattle.prog_data.specs.declared.goals.Goal.{Fail}
-use Rattle.term_heap.specs.Changes.{places}
+use Rattle.clause_index.specs.declared.keys.Key.{Key}
 use Rattle.engine_state.specs.declared.tasks.Row.{Row}
 use Rattle.engine_state.specs.declared.tasks.Exit as code
 use Rattle.engine_state.specs.declared.tasks.Task as code_task
@@ -13,6 +13,7 @@ use Rattle.engine_state.specs.declared.points.Alternative as code_alternative
 use Rattle.engine_state.specs.declared.points.Alternative.TheVariants as alternative
 use Rattle.engine_state.specs.declared.points.ChoicePoint as code_point
 use Rattle.engine_state.specs.declared.marks.Marked as code_marked
+use Rattle.engine_state.specs.Selections.{clauses_left}
 use Rattle.engine_state.specs.Stacks.{Marked}
 use Rattle.engine_state.specs.Engines.{Exit, Task, Runs, Cuts, Leaves, Link, Pending, Alternative, Resumes, Retries, Marks, ChoicePoint}
 
@@ -40,16 +41,18 @@ module _ (notes : List ℕ) where
   abbrev pub as_pending : code_pending.Pending → Pending
   as_pending c = record { exit = as_exit c.exit; height = c.height; rest = c.rest }
 
+  abbrev pub as_marked : code_marked.Marked → Marked
+  as_marked m = record { conds = row_of notes m.conds; exited = m.exited }
+
+-- choice points whose clauses an index selects
+module _ (index : List (List Key)) (notes : List ℕ) where
   abbrev pub as_alternative : code_alternative.Alternative → Alternative
   as_alternative (alternative.Resumes rest) = Resumes rest
-  as_alternative (alternative.Retries next end c) = Retries (places next (end - next)) (as_pending c)
+  as_alternative (alternative.Retries key next end c) = Retries (clauses_left index c.exit.pred key next end) (as_pending notes c)
   as_alternative (alternative.Marks p conds exited) = Marks p (row_of notes conds) exited
 
   abbrev pub as_point : code_point.ChoicePoint → ChoicePoint
   as_point p = record { trail = p.trail; links = p.links; below = p.below; alternative = as_alternative p.alternative }
-
-  abbrev pub as_marked : code_marked.Marked → Marked
-  as_marked m = record { conds = row_of notes m.conds; exited = m.exited }
 
   -- choice points, the newest first
   abbrev pub as_points : List code_point.ChoicePoint → List ChoicePoint

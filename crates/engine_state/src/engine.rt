@@ -16,14 +16,16 @@ use crate::marks::{Marked, exit_mark, mark_at};
 use crate::points::{Alternative, ChoicePoint, cut_points, height, held_links, take_newest};
 use crate::stages::Setting;
 use crate::tasks::{Exit, Link, Task, is_idle};
+use clause_index::Index;
 use prog_data::{Goal, Program};
 use term_core::NoMemory;
 use term_heap::{Heap, HeapMark};
 
-/// What a run holds: its program, the heap, what is to be done, what failure goes back to, the calls made, and the query's place.
+/// What a run holds: its program and the index of its clauses, the heap, what is to be done, what failure goes back to, the calls made, and the query's place.
 #[derive(Drop)]
 pub struct Engine<'p> {
     pub program: &'p Program,
+    pub index: Index,
     pub heap: Heap,
     pub links: Vec<Link<'p>>,
     pub notes: Vec<u64>,
@@ -138,7 +140,7 @@ impl<'p> Engine<'p> {
         requires placed { IsAlternativePlaced self.old.program.now (size_of self.old.heap.changes) (length self.old.links.items) alternative }
         requires noted { IsAlternativeNoted (length self.old.notes.items) alternative }
         requires wide { IsWide alternative }
-        ensures { OnOk result (GoesTo self.old (length self.old.links.items) (alternative_choices (value_of self.old.heap.changes) (as_links self.old.notes.items self.old.links.items) self.old.query (as_alternative self.old.notes.items alternative) ++ choices_at self.old) self.new) }
+        ensures { OnOk result (GoesTo self.old (length self.old.links.items) (alternative_choices (value_of self.old.heap.changes) (as_links self.old.notes.items self.old.links.items) self.old.query (as_alternative self.old.index self.old.notes.items alternative) ++ choices_at self.old) self.new) }
     {
         let below = height(self.points.as_slice())?;
         let point = ChoicePoint {

@@ -13,6 +13,7 @@ mod marks;
 mod move_laws;
 mod notes;
 mod points;
+mod selecting;
 mod stages;
 mod tasks;
 

@@ -1,6 +1,7 @@
 // Marks among the choice points.
 ghost use Rattle.std.specs.Prelude.{◌≡◌, ℕ, List, MatchOption};
 ghost use Rattle.prog_data.specs.declared.programs.Program.{Program};
+ghost use Rattle.clause_index.specs.declared.keys.Key.{Key};
 ghost use Rattle.term_heap.specs.Changes.{Change};
 ghost use Rattle.engine_state.specs.declared.tasks.Link.{Link};
 ghost use Rattle.engine_state.specs.Stacks.{exited_alternative, exit_points, mark_in, mark_at_height};
@@ -43,7 +44,7 @@ pub struct Marked {
 
 // What an alternative has of a mark.
 fn mark_in(alternative: Alternative) -> Marked
-    ensures mark { (notes : List ℕ) → as_marked notes result ≡ mark_in (as_alternative notes alternative) }
+    ensures mark { (index : List (List Key)) (notes : List ℕ) → as_marked notes result ≡ mark_in (as_alternative index notes alternative) }
     ensures noted { (held : ℕ) → IsAlternativeNoted held alternative → IsRowWithin held result.conds }
 {
     let none = Row { first: 0, count: 0 };
@@ -52,7 +53,7 @@ fn mark_in(alternative: Alternative) -> Marked
             conds: none,
             exited: false,
         },
-        Alternative::Retries(_, _, _) => Marked {
+        Alternative::Retries(_, _, _, _) => Marked {
             conds: none,
             exited: false,
         },
@@ -63,7 +64,7 @@ fn mark_in(alternative: Alternative) -> Marked
 /// The conditions of the mark with so many choices below it, and whether it was exited. Where there is no such mark there are none.
 pub(crate) fn mark_at(points: &[ChoicePoint], height: u64) -> Marked
     requires { AreRising points.now }
-    ensures mark { (notes : List ℕ) → as_marked notes result ≡ mark_at_height height (as_points notes points.now) }
+    ensures mark { (index : List (List Key)) (notes : List ℕ) → as_marked notes result ≡ mark_at_height height (as_points index notes points.now) }
     ensures noted { (held : ℕ) → ArePointsNoted held points.now → IsRowWithin held result.conds }
 {
     match place_at(points, height) {
@@ -80,12 +81,12 @@ pub(crate) fn mark_at(points: &[ChoicePoint], height: u64) -> Marked
 
 // An alternative, exited where it is a mark.
 fn exited(alternative: Alternative) -> Alternative
-    ensures exited { (notes : List ℕ) → as_alternative notes result ≡ exited_alternative (as_alternative notes alternative) }
+    ensures exited { (index : List (List Key)) (notes : List ℕ) → as_alternative index notes result ≡ exited_alternative (as_alternative index notes alternative) }
     ensures may { (program : Program) → MayBecome program alternative result }
 {
     match alternative {
         Alternative::Resumes(rest) => Alternative::Resumes(rest),
-        Alternative::Retries(next, end, call) => Alternative::Retries(next, end, call),
+        Alternative::Retries(key, next, end, call) => Alternative::Retries(key, next, end, call),
         Alternative::Marks(pred, conds, _) => Alternative::Marks(pred, conds, true),
     }
 }
@@ -93,7 +94,7 @@ fn exited(alternative: Alternative) -> Alternative
 /// Exits the mark with so many choices below it, if there is one.
 pub(crate) fn exit_mark(points: &mut Vec<ChoicePoint>, height: u64)
     requires { AreRising points.old.items }
-    ensures exited { (notes : List ℕ) → as_points notes points.new.items ≡ exit_points height (as_points notes points.old.items) }
+    ensures exited { (index : List (List Key)) (notes : List ℕ) → as_points index notes points.new.items ≡ exit_points height (as_points index notes points.old.items) }
     ensures moments { (program : Program) (query : ℕ) (changes : List Change) (notes : List ℕ) (links : List Link) → HasMoments program query changes notes links points.old.items → HasMoments program query changes notes links points.new.items }
 {
     match place_at(points.as_slice(), height) {

@@ -1,6 +1,7 @@
 // Choice points, of which the last is the newest.
 ghost use Rattle.std.specs.Prelude.{◌≡◌, ◌≤◌, ◌<◌, ◌+◌, ◌∷◌, ◌++◌, [], ℕ, List, length, reverse, IfOk, IfSome, MatchOption};
 ghost use Rattle.prog_data.specs.declared.programs.Program.{Program};
+ghost use Rattle.clause_index.specs.declared.keys.Key.{Key};
 ghost use Rattle.term_heap.specs.Changes.{Change};
 ghost use Rattle.engine_state.specs.declared.tasks.Link.{Link};
 ghost use Rattle.engine_state.specs.Stacks.{width, height_of, shortened, cut_points, IsTaken};
@@ -9,6 +10,7 @@ ghost use Rattle.engine_state.specs.Newest.{IsNewest};
 ghost use Rattle.engine_state.specs.Moments.{links_held, notes_held, HasMoments, MayBecome, HasItsMoment};
 
 use crate::tasks::{Exit, Row};
+use clause_index::Key;
 use term_core::NoMemory;
 
 /// A call with clauses left to be tried: its exit, the height before them, and the link behind it.
@@ -24,8 +26,8 @@ pub struct Pending {
 pub enum Alternative {
     /// A link.
     Resumes(u64),
-    /// The clauses of a call from a number on, before another.
-    Retries(u64, u64, Pending),
+    /// The clauses of a call that are selected by a key, from a place on, before another.
+    Retries(Key, u64, u64, Pending),
     /// A call's predicate, its comp conditions, and whether it was exited.
     Marks(u64, Row, bool),
 }
@@ -87,11 +89,11 @@ pub(crate) fn held_notes(points: &[ChoicePoint]) -> u64
 
 // How many choices an alternative stands for.
 fn width(alternative: &Alternative) -> u64
-    ensures { (notes : List ℕ) → result ≡ width (as_alternative notes alternative.now) }
+    ensures { (index : List (List Key)) (notes : List ℕ) → result ≡ width (as_alternative index notes alternative.now) }
 {
     match alternative {
         Alternative::Resumes(_) => 1,
-        Alternative::Retries(next, end, _) => (*end).saturating_sub(*next),
+        Alternative::Retries(_, next, end, _) => (*end).saturating_sub(*next),
         Alternative::Marks(_, _, _) => 1,
     }
 }
@@ -102,7 +104,7 @@ fn width(alternative: &Alternative) -> u64
 ///
 /// Only where no number of 64 bits tells it.
 pub(crate) fn height(points: &[ChoicePoint]) -> Result<u64, NoMemory>
-    ensures { (notes : List ℕ) → IfOk result (λ h. h ≡ height_of (as_points notes points.now)) }
+    ensures { (index : List (List Key)) (notes : List ℕ) → IfOk result (λ h. h ≡ height_of (as_points index notes points.now)) }
 {
     match newest(points) {
         None => Ok(0),
@@ -115,13 +117,13 @@ pub(crate) fn height(points: &[ChoicePoint]) -> Result<u64, NoMemory>
 
 // An alternative with only so many of its clauses left, the last ones.
 fn shortened(alternative: Alternative, left: u64) -> Alternative
-    ensures shortened { (notes : List ℕ) → as_alternative notes result ≡ shortened left (as_alternative notes alternative) }
+    ensures shortened { (index : List (List Key)) (notes : List ℕ) → as_alternative index notes result ≡ shortened left (as_alternative index notes alternative) }
     ensures may { (program : Program) → 0 < left → MayBecome program alternative result }
 {
     match alternative {
         Alternative::Resumes(rest) => Alternative::Resumes(rest),
-        Alternative::Retries(next, end, call) => {
-            Alternative::Retries(next.max(end.saturating_sub(left)), end, call)
+        Alternative::Retries(key, next, end, call) => {
+            Alternative::Retries(key, next.max(end.saturating_sub(left)), end, call)
         }
         Alternative::Marks(pred, conds, exited) => Alternative::Marks(pred, conds, exited),
     }
@@ -129,7 +131,7 @@ fn shortened(alternative: Alternative, left: u64) -> Alternative
 
 /// Takes the newest choices off, also those within one choice point, until that many are left.
 pub(crate) fn cut_points(points: &mut Vec<ChoicePoint>, height: u64)
-    ensures cut { (notes : List ℕ) → as_points notes points.new.items ≡ cut_points height (as_points notes points.old.items) }
+    ensures cut { (index : List (List Key)) (notes : List ℕ) → as_points index notes points.new.items ≡ cut_points height (as_points index notes points.old.items) }
     ensures moments { (program : Program) (query : ℕ) (changes : List Change) (notes : List ℕ) (links : List Link) → HasMoments program query changes notes links points.old.items → HasMoments program query changes notes links points.new.items }
 {
     while let Some(point) = newest(points.as_slice()) {
@@ -144,7 +146,7 @@ pub(crate) fn cut_points(points: &mut Vec<ChoicePoint>, height: u64)
 
 /// Takes the newest choice off, as a choice point of its own.
 pub(crate) fn take_newest(points: &mut Vec<ChoicePoint>) -> Option<ChoicePoint>
-    ensures taken { (notes : List ℕ) → MatchOption result (as_points notes points.old.items ≡ []) (λ p. IsTaken (as_points notes points.old.items) (as_point notes p) (as_points notes points.new.items)) }
+    ensures taken { (index : List (List Key)) (notes : List ℕ) → MatchOption result (as_points index notes points.old.items ≡ []) (λ p. IsTaken (as_points index notes points.old.items) (as_point index notes p) (as_points index notes points.new.items)) }
     ensures back { (program : Program) (query : ℕ) (changes : List Change) (notes : List ℕ) (links : List Link) → HasMoments program query changes notes links points.old.items → IfSome result (λ p. HasItsMoment program query changes notes links p points.new.items) }
 {
     match newest(points.as_slice()) {
@@ -158,14 +160,14 @@ pub(crate) fn take_newest(points: &mut Vec<ChoicePoint>) -> Option<ChoicePoint>
                 points.pop();
                 Some(point)
             }
-            Alternative::Retries(next, end, call) => {
+            Alternative::Retries(key, next, end, call) => {
                 if end.saturating_sub(next) <= 1 {
                     points.pop();
                     return Some(point);
                 }
                 let last = points.len() - 1;
-                points[last] = point.with(Alternative::Retries(next + 1, end, call));
-                Some(point.with(Alternative::Retries(next, next + 1, call)))
+                points[last] = point.with(Alternative::Retries(key, next + 1, end, call));
+                Some(point.with(Alternative::Retries(key, next, next + 1, call)))
             }
         },
     }

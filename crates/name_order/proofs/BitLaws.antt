@@ -8,7 +8,7 @@ use Rattle.std.specs.Int.{bit_not}
 use Rattle.std.specs.Prelude.{slice_index_or, slice_set, cond, not, nat_lt, nat_eq, ◌==◌, ◌^◌}
 use Rattle.prog_data.specs.Values.{bit_at}
 use Rattle.name_order.specs.Relations.{Pair, same_pair, are_names}
-use Rattle.name_order.specs.Tables.{Grid, has}
+use Rattle.name_order.specs.Tables.{Grid, has, lacks}
 use Rattle.name_order.proofs.FixpointLaws.{and_left, and_right, and_both}
 use Rattle.name_order.proofs.RelationLaws.{pair_same}
 
@@ -32,6 +32,13 @@ has_inside t p e =
     let first : nat_lt p.0 t.size ≡ true = and_left _ _ names in
     let second : nat_lt p.1 t.size ≡ true = and_right (nat_lt p.0 t.size) _ names in
     (grind (arith, nat_tests), grind (arith, nat_tests))
+
+-- what is lacking is a pair of names
+pub lacks_inside : (t : Grid) (n m : ℕ) → lacks t (n, m) ≡ true → m < t.size
+lacks_inside t n m e =
+    let names : are_names t.size (n, m) ≡ true = and_left _ _ e in
+    let second : nat_lt m t.size ≡ true = and_right (nat_lt n t.size) _ names in
+    grind (arith, nat_tests)
 
 -- two pairs of names with one place are the same
 earlier_row : (size n m k : ℕ) → m < size → n < k → n * size + m < k * size

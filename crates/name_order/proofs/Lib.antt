@@ -10,3 +10,5 @@ mod BitLaws
 mod BelowLaws
 mod MemberTerms
 mod TouchLaws
+pub mod Gathering
+mod SetLaws

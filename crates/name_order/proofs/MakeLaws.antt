@@ -15,7 +15,7 @@ use Rattle.name_order.specs.declared.marking.Kind.TheVariants.{Leads as LeadsKin
 use Rattle.name_order.specs.Fixpoints.{RuleOf, ConsistentTest, ClosedTest, GreatestTest, LeastTest, Within}
 use Rattle.name_order.specs.Relations.{Pair, is_name, are_names, leaf_has, member_rule, HasMember, names_from, names_below, has_member, full_leaves, looked_up, leaf_below, below_rule, Below, below, leaf_meets, meets_rule, meets}
 use Rattle.name_order.specs.Tables.{Grid, has, lacks, unit_leads, marking, led_leaves, leaves_led, all_leaves_led, kept_leaves, IsLeast}
-use Rattle.name_order.specs.Held.{SameLeaves, TablesHold}
+use Rattle.name_order.specs.Held.{SameLeaves, RowsLack, TablesHold}
 use Rattle.name_order.proofs.FixpointLaws.{and_left, and_right, and_both, clash, not_true, not_false, not_not_true, by_contrary, table_greatest}
 use Rattle.name_order.proofs.RelationLaws.{all_mono, any_mono, leaf_below_mono, name_listed, rules_of_name, named, nat_eq_same, nat_eq_itself, member_law, below_law, meets_law, meets_named}
 use Rattle.name_order.proofs.OrderLaws.{inside, outside, empty}
@@ -249,13 +249,16 @@ pub holds : (g : Grammar) → IsGrammar g → (leads members outside meeting : G
     IsLeast (marking Members (all_leaves_led g.rules (has leads))) (length (all_leaves_led g.rules (has leads))) members →
     IsLeast (marking Outside (map (kept_leaves (has members)) (all_leaves_led g.rules (has leads)))) (length (map (kept_leaves (has members)) (all_leaves_led g.rules (has leads)))) outside →
     IsLeast (marking MeetsKind (map (kept_leaves (has members)) (all_leaves_led g.rules (has leads)))) (length (map (kept_leaves (has members)) (all_leaves_led g.rules (has leads)))) meeting →
-    TablesHold g (map (kept_leaves (has members)) (all_leaves_led g.rules (has leads))) members outside meeting
-holds g range leads members outside meeting a b c d = record {
+    (above_rows apart_rows : List (List ℕ)) → RowsLack outside above_rows → RowsLack meeting apart_rows →
+    TablesHold g (map (kept_leaves (has members)) (all_leaves_led g.rules (has leads))) members outside meeting above_rows apart_rows
+holds g range leads members outside meeting a b c d above_rows apart_rows e f = record {
   range = range;
   same_leaves = kept;
   has_members = same_members g (all_leaves_led g.rules (has leads)) count led members b;
-  are_below = same_below g (map (kept_leaves (has members)) (all_leaves_led g.rules (has leads))) kept_count kept outside c;
-  are_meeting = same_meets g (map (kept_leaves (has members)) (all_leaves_led g.rules (has leads))) kept_count kept meeting d;
+  are_below = belows;
+  are_meeting = meeting_is;
+  aboves = λ n lt. e n (subst (λ k. n < k) (sym (c.size ∙ kept_count)) lt) ∙ (λ i m. belows n m i);
+  aparts = λ n lt. f n (subst (λ k. n < k) (sym (d.size ∙ kept_count)) lt) ∙ (λ i m. are_names ((d.size ∙ kept_count) i) (n, m) && not (meeting_is n m i));
 }
   where
     count : length (all_leaves_led g.rules (has leads)) ≡ length g.rules
@@ -269,3 +272,9 @@ holds g range leads members outside meeting a b c d = record {
 
     kept : (n : ℕ) → SameLeaves (looked_up (map (kept_leaves (has members)) (all_leaves_led g.rules (has leads))) n) (full_leaves g n)
     kept = same_kept g (all_leaves_led g.rules (has leads)) count led members b
+
+    belows : (n m : ℕ) → lacks outside (n, m) ≡ below g n m
+    belows = same_below g (map (kept_leaves (has members)) (all_leaves_led g.rules (has leads))) kept_count kept outside c
+
+    meeting_is : (n m : ℕ) → has meeting (n, m) ≡ meets g n m
+    meeting_is = same_meets g (map (kept_leaves (has members)) (all_leaves_led g.rules (has leads))) kept_count kept meeting d

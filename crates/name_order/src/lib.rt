@@ -9,6 +9,7 @@ mod marking;
 mod meets;
 mod pairs;
 mod relations;
+mod sets;
 mod users;
 
 pub use basics::{admits_atom, admits_int};
@@ -17,3 +18,4 @@ pub use laws::{
     fixpoints_law, meets_law, meets_symmetric_law, member_law, members_belong_law, order_law,
 };
 pub use relations::Relations;
+pub use sets::put_where;

@@ -40,6 +40,14 @@ impl Pairs {
         })
     }
 
+    /// How many names there are.
+    pub(crate) fn len(&self) -> u64
+        ensures len { result ≡ self.now.size }
+        ensures few { result ≤ 512 }
+    {
+        self.size as u64
+    }
+
     /// Whether the pair is in the set.
     pub(crate) fn has(&self, first: u64, second: u64) -> bool
         ensures { result ≡ has self.now (first, second) }

@@ -2,11 +2,13 @@
 ghost use Rattle.std.specs.Prelude.{◌≡◌, ◌↔◌, ◌<◌, ◌≤◌, length, IfOk, IsTrue};
 ghost use Rattle.prog_data.specs.GrammarRange.{IsGrammar};
 ghost use Rattle.name_order.specs.Relations.{HasMember, Below, Meets, has_member, below, meets, full_leaves};
-ghost use Rattle.name_order.specs.Held.{SameLeaves};
+ghost use Rattle.prog_data.specs.Values.{bit_at};
+ghost use Rattle.name_order.specs.Held.{SameLeaves, apart};
 
 use crate::leaves::{all_kept_leaves, all_leaves_led, copied_grammar, rules_at};
 use crate::marking::{Kind, table};
 use crate::pairs::Pairs;
+use crate::sets::{all_lacking, set_at};
 use prog_data::{Grammar, Rule};
 use sqlite_items::Items;
 use std::alloc::Global;
@@ -21,6 +23,8 @@ pub struct Relations {
     members: Pairs,
     outside: Pairs,
     meeting: Pairs,
+    above: Items<[u64; 8]>,
+    apart: Items<[u64; 8]>,
 }
 
 impl Model for Relations {
@@ -31,7 +35,7 @@ impl Model for Relations {
 
     ghost view = { λ r. r.grammar };
 
-    ghost invariant = { λ r. TablesHold r.grammar r.leaves r.members r.outside r.meeting };
+    ghost invariant = { λ r. TablesHold r.grammar r.leaves r.members r.outside r.meeting r.above r.apart };
 }
 
 impl Relations {
@@ -47,6 +51,8 @@ impl Relations {
         let leaves = all_kept_leaves(alloc, &members, all.as_slice())?;
         let outside = table(alloc, Kind::Outside, leaves.as_slice())?;
         let meeting = table(alloc, Kind::Meets, leaves.as_slice())?;
+        let above = all_lacking(alloc, &outside)?;
+        let apart = all_lacking(alloc, &meeting)?;
         let grammar = copied_grammar(alloc, grammar)?;
         Ok(Relations {
             grammar,
@@ -54,6 +60,8 @@ impl Relations {
             members,
             outside,
             meeting,
+            above,
+            apart,
         })
     }
 
@@ -83,6 +91,22 @@ impl Relations {
         ensures relation { IsTrue result ↔ Meets self.now first second }
     {
         self.meeting.has(first, second)
+    }
+
+    /// The names that the name is below.
+    pub fn above(&self, name: u64) -> [u64; 8]
+        requires { name < length self.now.rules }
+        ensures { bit_at result ≡ below self.now name }
+    {
+        set_at(self.above.as_slice(), name as usize)
+    }
+
+    /// The names that do not meet the name.
+    pub fn apart(&self, name: u64) -> [u64; 8]
+        requires { name < length self.now.rules }
+        ensures { bit_at result ≡ apart self.now name }
+    {
+        set_at(self.apart.as_slice(), name as usize)
     }
 
     /// Whether the name has a member.

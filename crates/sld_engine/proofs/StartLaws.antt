@@ -24,6 +24,7 @@ use Rattle.machine_model.specs.LeanerLaws.{LeanerStatesAreFound}
 use Rattle.term_heap.specs.declared.cells.Cell.{Cell}
 use Rattle.term_heap.specs.declared.cells.Cell.TheVariants as cell
 use Rattle.term_heap.specs.declared.cells.Cell.TheVariants.{Free}
+use Rattle.clause_index.specs.Selected.{program_keys}
 use Rattle.term_heap.specs.Changes.{Change, Grows, History, cells_of, cell_at, cell_term, size_of, value_of, places, next_serial, NamesBelow, IsEnd, IsMade}
 use Rattle.term_heap.specs.Loads.{IsPlaced, from_base, HasLoaded}
 use Rattle.term_heap.proofs.PastLaws.{sizes_stay}
@@ -114,7 +115,7 @@ module _ (clauses : ClausesEnter) (query : Term) (n s at : ℕ) (fresh heap : Hi
       subst (λ cs. size_of fresh.changes ≤ size_of cs) (sym (ap (λ h. h.changes) loaded.is_new)) (sizes_stay (Grows loaded.cells (next_serial fresh.last) ∷ []) fresh.changes) in
       omega (arith, counted, size, grown, many)
 
-module _ (found : LeanerStatesAreFound) (program : Program) (is : IsProgram program) (pred : ℕ) (query : Term) (called : called_by program query ≡ Some pred) (e : code.Engine) (root : ℕ) (same_program : e.program.now ≡ program)
+module _ (found : LeanerStatesAreFound) (program : Program) (is : IsProgram program) (pred : ℕ) (query : Term) (called : called_by program query ≡ Some pred) (e : code.Engine) (root : ℕ) (same_program : e.program.now ≡ program) (has_index : e.index ≡ program_keys program)
     (no_links : e.links.items ≡ []) (no_notes : e.notes.items ≡ []) (no_points : e.points.items ≡ []) (no_calls : e.calls ≡ 0) (made : IsMade e.heap.changes) (at_there : e.query < size_of e.heap.changes)
     (there : root < size_of e.heap.changes) (end : IsEnd (cell_at (cells_of e.heap.changes) root)) (value_is : value_of e.heap.changes e.query ≡ query) (root_is : value_of e.heap.changes root ≡ value_of e.heap.changes e.query)
     (enough : above query ≤ size_of e.heap.changes) where
@@ -144,7 +145,7 @@ module _ (found : LeanerStatesAreFound) (program : Program) (is : IsProgram prog
       λ i. record {
         calls = sym no_calls i;
         fresh = size_of changes;
-        choices = choices_of changes (as_links (notes i) (links i)) e.query (as_points (notes i) (points i));
+        choices = choices_of changes (as_links (notes i) (links i)) e.query (as_points e.index (notes i) (points i));
         current = Doing (record { items = Does (goal.Call pred (parts_are i)) 0 nowhere ∷ map (item_of value) (chain (as_links (notes i) (links i)) 0); query = sym value_is i });
       }
 
@@ -154,7 +155,8 @@ module _ (found : LeanerStatesAreFound) (program : Program) (is : IsProgram prog
   kept : IsKept e
   kept = record {
     in_range = subst IsProgram (sym same_program) is;
-    counted = subst (λ ps. AreCounted (as_points e.notes.items ps)) (sym no_points) tt;
+    indexed = has_index ∙ ap program_keys (sym same_program);
+    counted = subst (λ ps. AreCounted (as_points e.index e.notes.items ps)) (sym no_points) tt;
     moments = subst (λ ps. Moments e.program.now e.query changes (length e.notes.items) (reverse e.links.items) (reverse ps)) (sym no_points)
         (subst (λ ls. Moments e.program.now e.query changes (length e.notes.items) (reverse ls) []) (sym no_links) (at_there, tt));
   }

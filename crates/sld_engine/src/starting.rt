@@ -5,6 +5,7 @@ ghost use Rattle.prog_data.specs.Goals.{called_by};
 ghost use Rattle.prog_data.specs.Programs.{IsProgram};
 ghost use Rattle.sld_engine.specs.Starts.{arguments_row, HasStarted};
 
+use clause_index::Index;
 use engine_moves::relied_law;
 use engine_state::{Engine, Row, Stage};
 use prog_data::{Place, Program};
@@ -49,7 +50,7 @@ pub(crate) struct Start<'p> {
     pub stage: Stage<'p>,
 }
 
-/// The engine of a run of a query before its first event: the query is put into cells, and its call of the predicate is due.
+/// The engine of a run of a query before its first event: its clauses get an index, the query is put into cells, and its call of the predicate is due.
 ///
 /// # Errors
 ///
@@ -75,8 +76,10 @@ pub(crate) fn start_engine<'p>(
     let _size = heap.len();
     let root = heap.root(place);
     let args = arguments_row(heap.cell(root));
+    let index = Index::make(alloc, program)?;
     let engine = Engine {
         program,
+        index,
         heap,
         links: Vec::new(alloc),
         notes: Vec::new(alloc),

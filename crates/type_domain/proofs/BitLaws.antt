@@ -1,13 +1,11 @@
--- The bits of words: what is in both or in one of two sets, what is put in, and where one set holds another.
-use Rattle.std.proofs.Common.{◌≡◌, inl, inr, ℕ, zero, suc, ◌<◌, ◌≤◌, ◌+◌, ◌*◌, ◌/◌, ◌%◌, true, false, ◌&&◌, ◌||◌, List, [], ◌∷◌, length, refl, ap, sym, ◌∙◌, arith, bit_and, bit_or, min, w64}
-use Rattle.std.specs.Prelude.{slice_index_or, slice_set, ◌==◌, ◌^◌}
+-- The bits of words: what is in both or in one of two sets, and where one set holds another or none of it.
+use Rattle.std.proofs.Common.{◌≡◌, inl, inr, ℕ, zero, suc, ◌<◌, ◌≤◌, ◌+◌, ◌*◌, ◌/◌, ◌%◌, Bool, true, false, ◌&&◌, ◌||◌, List, [], ◌∷◌, length, refl, ap, sym, ◌∙◌, arith, bit_and, bit_or, min}
+use Rattle.std.specs.Prelude.{slice_index_or, ◌==◌, ◌^◌}
 use Rattle.std.specs.Int.Bits.{and_zero_r}
 use Rattle.std.proofs.lemmas.Bool.{cases_eq}
 use Rattle.std.proofs.lemmas.Bool.Decides.{nat_tests}
-use Rattle.std.proofs.Math.Bool.{or-true, or-false}
-use Rattle.std.proofs.lemmas.List.{get_or-set_same, get_or-set_other}
 use Rattle.std.proofs.lemmas.Nat.{and_shr, or_shr, and_mod, or_mod}
-use Rattle.std.proofs.lemmas.Nat.Bits.{bit_at_set_same, bit_at_set_other, bit_at_and, bit_at_above, same_from_bits}
+use Rattle.std.proofs.lemmas.Nat.Bits.{bit_at-zero, bit_at_and, bit_at_above, same_from_bits}
 use Rattle.prog_data.specs.Values.{bit_at}
 use Rattle.type_domain.proofs.Lists.{and_left}
 
@@ -65,49 +63,6 @@ bits_in_both a b la lb = λ i n. (ap (λ w. (w / 2 ^ (n % 64)) % 2 == 1) (word_o
 pub bits_in_either : (a b : List ℕ) → length a ≡ 8 → length b ≡ 8 → bit_at (eight bit_or a b) ≡ (λ n. bit_at a n || bit_at b n)
 bits_in_either a b la lb = λ i n. (ap (λ w. (w / 2 ^ (n % 64)) % 2 == 1) (word_of bit_or refl a b la lb (n / 64)) ∙ or_bit (slice_index_or a (n / 64) 0) (slice_index_or b (n / 64) 0) (n % 64)) i
 
--- one bit more
-
-abbrev with_bit : List ℕ → ℕ → List ℕ
-with_bit ws name = slice_set ws (name / 64) (bit_or (slice_index_or ws (name / 64) 0) (1 * 2 ^ (name % 64) % 18446744073709551616))
-
-bits_put_at : (ws : List ℕ) (name : ℕ) → name < 512 → length ws ≡ 8 → (n : ℕ) → bit_at (with_bit ws name) n ≡ (bit_at ws n || n == name)
-bits_put_at ws name lt l n = elim (cases_eq (n / 64) (name / 64)) as (λ _. bit_at (with_bit ws name) n ≡ (bit_at ws n || n == name)) [ inl e ↦ same e | inr d ↦ apart d ]
-  where
-    rest : ℕ
-    rest = slice_index_or ws (name / 64) 0
-
-    other : (n == name) ≡ false → (bit_at ws n || n == name) ≡ bit_at ws n
-    other e = ap (λ b. bit_at ws n || b) e ∙ or-false (bit_at ws n)
-
-    apart : ((n / 64 ≡ name / 64) → ⊥) → bit_at (with_bit ws name) n ≡ (bit_at ws n || n == name)
-    apart d =
-        ap (λ w. (w / 2 ^ (n % 64)) % 2 == 1) (get_or-set_other ws (name / 64) (n / 64) _ 0 d)
-        ∙ sym (other (elim (cases_eq n name) as (λ _. (n == name) ≡ false) [ inl e ↦ absurd (d (ap (λ k. k / 64) e)) | inr f ↦ grind (arith, nat_tests) ]))
-
-    word : n / 64 ≡ name / 64 → slice_index_or (with_bit ws name) (n / 64) 0 ≡ bit_or rest (1 * 2 ^ (name % 64) % 18446744073709551616)
-    word e = ap (λ k. slice_index_or (with_bit ws name) k 0) e ∙ get_or-set_same ws (name / 64) _ 0 (omega (arith, lt, l))
-
-    same : n / 64 ≡ name / 64 → bit_at (with_bit ws name) n ≡ (bit_at ws n || n == name)
-    same e = elim (cases_eq (n % 64) (name % 64)) as (λ _. bit_at (with_bit ws name) n ≡ (bit_at ws n || n == name)) [ inl f ↦ one f | inr f ↦ none f ]
-      where
-        one : n % 64 ≡ name % 64 → bit_at (with_bit ws name) n ≡ (bit_at ws n || n == name)
-        one f =
-            ap (λ w. (w / 2 ^ (n % 64)) % 2 == 1) (word e) ∙ ap (λ k. (bit_or rest (1 * 2 ^ (name % 64) % 18446744073709551616) / 2 ^ k) % 2 == 1) f
-            ∙ ap (λ b. b == 1) (bit_at_set_same w64 rest (name % 64) (omega arith))
-            ∙ sym (ap (λ b. bit_at ws n || b) (is_name) ∙ or-true (bit_at ws n))
-          where
-            is_name : (n == name) ≡ true
-            is_name = let q : n ≡ name = omega (arith, e, f) in grind (arith, nat_tests)
-
-        none : ((n % 64 ≡ name % 64) → ⊥) → bit_at (with_bit ws name) n ≡ (bit_at ws n || n == name)
-        none f =
-            ap (λ w. (w / 2 ^ (n % 64)) % 2 == 1) (word e) ∙ ap (λ b. b == 1) (bit_at_set_other w64 rest (name % 64) (omega arith) (n % 64) f)
-            ∙ sym (ap (λ k. (slice_index_or ws k 0 / 2 ^ (n % 64)) % 2 == 1) e)
-            ∙ sym (other (elim (cases_eq n name) as (λ _. (n == name) ≡ false) [ inl q ↦ absurd (f (ap (λ k. k % 64) q)) | inr q ↦ grind (arith, nat_tests) ]))
-
-pub bits_put : (ws : List ℕ) (name : ℕ) → name < 512 → length ws ≡ 8 → bit_at (with_bit ws name) ≡ (λ n. bit_at ws n || n == name)
-bits_put ws name lt l = λ i n. bits_put_at ws name lt l n i
-
 -- sets where the first so many words of one hold those of the other
 abbrev pub Covered : List ℕ → List ℕ → ℕ → Type 0
 Covered a b k = (i : ℕ) → i < k → bit_and (slice_index_or a i 0) (slice_index_or b i 0) ≡ slice_index_or b i 0
@@ -142,6 +97,51 @@ whole_word x y lt h = same_from_bits (bit_and x y) y (λ k. bit_at_and x y k ∙
 
 pub not_covered : (a b : List ℕ) (i : ℕ) → slice_index_or b i 0 < 18446744073709551616 → (bit_and (slice_index_or a i 0) (slice_index_or b i 0) ≡ slice_index_or b i 0 → ⊥) → HoldsAll a b → ⊥
 not_covered a b i lt d h = d (whole_word (slice_index_or a i 0) (slice_index_or b i 0) lt (λ k le e.
+    let q : (i * 64 + k) / 64 ≡ i = omega (arith, le) in
+    let r : (i * 64 + k) % 64 ≡ k = omega (arith, le) in
+    let there : bit_at b (i * 64 + k) ≡ ((slice_index_or b i 0 / 2 ^ k) % 2 == 1) = ap (λ j. (slice_index_or b j 0 / 2 ^ ((i * 64 + k) % 64)) % 2 == 1) q ∙ ap (λ j. (slice_index_or b i 0 / 2 ^ j) % 2 == 1) r in
+    let here : bit_at a (i * 64 + k) ≡ ((slice_index_or a i 0 / 2 ^ k) % 2 == 1) = ap (λ j. (slice_index_or a j 0 / 2 ^ ((i * 64 + k) % 64)) % 2 == 1) q ∙ ap (λ j. (slice_index_or a i 0 / 2 ^ j) % 2 == 1) r in
+    sym here ∙ h (i * 64 + k) (there ∙ e)))
+
+-- sets where the first so many words of one have no bit of the other
+abbrev pub Apart : List ℕ → List ℕ → ℕ → Type 0
+Apart a b k = (i : ℕ) → i < k → bit_and (slice_index_or a i 0) (slice_index_or b i 0) ≡ 0
+
+abbrev pub HoldsNone : List ℕ → List ℕ → Type 0
+HoldsNone a b = (n : ℕ) → bit_at b n ≡ true → bit_at a n ≡ false
+
+pub apart_all : (a b : List ℕ) → length b ≡ 8 → Apart a b 8 → HoldsNone a b
+apart_all a b l h n e = first (bit_at a n) (bit_at b n) e (sym (and_bit (slice_index_or a (n / 64) 0) (slice_index_or b (n / 64) 0) (n % 64)) ∙ ap (λ w. (w / 2 ^ (n % 64)) % 2 == 1) (word (n / 64)) ∙ ap (λ k. k == 1) (bit_at-zero (n % 64)))
+  where
+    first : (x y : Bool) → y ≡ true → (x && y) ≡ false → x ≡ false
+    first true true e f = f
+    first true false e f = sym e
+    first false y e f = refl
+
+    word : (i : ℕ) → bit_and (slice_index_or a i 0) (slice_index_or b i 0) ≡ 0
+    word i = elim (cases_eq (i / 8) 0) as (λ _. bit_and (slice_index_or a i 0) (slice_index_or b i 0) ≡ 0) [ inl q ↦ h i (omega (arith, q)) | inr d ↦ ap (bit_and (slice_index_or a i 0)) (past b i (omega (arith, l, d))) ∙ and_zero_r (slice_index_or a i 0) ]
+
+-- where no bit of y stands in x, nothing of y is there
+no_word : (x y : ℕ) → y < 18446744073709551616 → ((k : ℕ) → k < 64 → ((y / 2 ^ k) % 2 == 1) ≡ true → ((x / 2 ^ k) % 2 == 1) ≡ false) → bit_and x y ≡ 0
+no_word x y lt h = same_from_bits (bit_and x y) 0 (λ k. bit_at_and x y k ∙ at k ∙ sym (bit_at-zero k))
+  where
+    at : (k : ℕ) → min ((x / 2 ^ k) % 2) ((y / 2 ^ k) % 2) ≡ 0
+    at k = elim (cases_eq ((y / 2 ^ k) % 2) 1) as (λ _. min ((x / 2 ^ k) % 2) ((y / 2 ^ k) % 2) ≡ 0) [ inl e ↦ one e | inr d ↦ none d ]
+      where
+        none : ((y / 2 ^ k) % 2 ≡ 1 → ⊥) → min ((x / 2 ^ k) % 2) ((y / 2 ^ k) % 2) ≡ 0
+        none d = let z : (y / 2 ^ k) % 2 ≡ 0 = omega (arith, d, below_two (y / 2 ^ k)) in omega (arith, z)
+
+        below : (y / 2 ^ k) % 2 ≡ 1 → k < 64 → min ((x / 2 ^ k) % 2) ((y / 2 ^ k) % 2) ≡ 0
+        below e le = let o : ((x / 2 ^ k) % 2 == 1) ≡ false = h k le (grind (arith, nat_tests)) in let q : ((x / 2 ^ k) % 2 ≡ 1 → ⊥) = grind (arith, nat_tests) in let z : (x / 2 ^ k) % 2 ≡ 0 = omega (arith, q, below_two (x / 2 ^ k)) in omega (arith, z)
+
+        above : (y / 2 ^ k) % 2 ≡ 1 → 64 ≤ k → min ((x / 2 ^ k) % 2) ((y / 2 ^ k) % 2) ≡ 0
+        above e le = let z : (y / 2 ^ k) % 2 ≡ 0 = bit_at_above y 64 k lt le in omega (arith, z, e)
+
+        one : (y / 2 ^ k) % 2 ≡ 1 → min ((x / 2 ^ k) % 2) ((y / 2 ^ k) % 2) ≡ 0
+        one e = elim (cases_eq (k / 64) 0) as (λ _. min ((x / 2 ^ k) % 2) ((y / 2 ^ k) % 2) ≡ 0) [ inl q ↦ below e (omega (arith, q)) | inr d ↦ above e (omega (arith, d)) ]
+
+pub not_apart : (a b : List ℕ) (i : ℕ) → slice_index_or b i 0 < 18446744073709551616 → (bit_and (slice_index_or a i 0) (slice_index_or b i 0) ≡ 0 → ⊥) → HoldsNone a b → ⊥
+not_apart a b i lt d h = d (no_word (slice_index_or a i 0) (slice_index_or b i 0) lt (λ k le e.
     let q : (i * 64 + k) / 64 ≡ i = omega (arith, le) in
     let r : (i * 64 + k) % 64 ≡ k = omega (arith, le) in
     let there : bit_at b (i * 64 + k) ≡ ((slice_index_or b i 0 / 2 ^ k) % 2 == 1) = ap (λ j. (slice_index_or b j 0 / 2 ^ ((i * 64 + k) % 64)) % 2 == 1) q ∙ ap (λ j. (slice_index_or b i 0 / 2 ^ j) % 2 == 1) r in

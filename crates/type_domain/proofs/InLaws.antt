@@ -127,6 +127,10 @@ module _ (g : Grammar) (says : Relied g) where
   in_term : (t : Term) → IsIn g t (of_name o term_name)
   in_term t = in_name t term_name (in_top g says t)
 
+  -- the names above term fit, since a variable belongs to each
+  pub top_fits : all_fit o (o.below term_name) ≡ true
+  top_fits = consistent (Var 0) (o.below term_name) (in_term (Var 0))
+
   part_ground : (ts : List Term) (i : ℕ) → i < length ts → list_all (λ p. p (rule.Basic basic.Gnd)) (map (admits g) ts) ≡ true → Belongs g (slice_index_or ts i (Var 0)) GND_TYPE
   part_ground [] i lt e = absurd (omega (arith, lt))
   part_ground (t ∷ ts) zero lt e = (says.belongs t GND_TYPE).0 (gnd_in g says t (and_left _ _ e))

@@ -116,7 +116,7 @@ module _ (o : Order) where
           subst (λ b. Leq (Some (λ n. list_any (leaf_builds f vs) (o.leaves n))) (where_fits b (Some (λ n. list_any (leaf_builds f ws) (o.leaves n))))) (sym (all_set_leq vs ws l e))
           (λ n h. any_mono (leaf_builds f ws) (leaf_builds f vs) (builds_leq f vs ws l e) (o.leaves n) h)
 
-  fewer_consistent : (p r : ℕ → Bool) → ((n : ℕ) → r n ≡ true → p n ≡ true) → all_fit o p ≡ true → all_fit o r ≡ true
+  pub fewer_consistent : (p r : ℕ → Bool) → ((n : ℕ) → r n ≡ true → p n ≡ true) → all_fit o p ≡ true → all_fit o r ≡ true
   fewer_consistent p r f e =
       all_mono _ _ (λ n. implies (p n) _ (r n) _ (f n) (λ h.
       and_from (is_inhabited (o.leaves n)) _ (and_left _ _ h) (all_mono _ _ (λ m. implies (p m) (o.meets n m) (r m) (o.meets n m) (f m) (λ x. x)) (names_of o) (and_right (is_inhabited (o.leaves n)) _ h)))) (names_of o) e

@@ -10,3 +10,5 @@ mod Orders
 mod Parts
 mod Stored
 mod TermLeaves
+mod Meeting
+mod RowLaws

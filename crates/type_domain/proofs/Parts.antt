@@ -1,11 +1,12 @@
--- What leaves, and what names, say of a part: joined, and met.
+-- What leaves, and what names, say of a part: joined, and united.
 use Rattle.std.proofs.Common.{◌≡◌, ℕ, ◌<◌, ◌≤◌, ◌+◌, ◌-◌, Bool, true, false, ◌&&◌, ◌||◌, not, List, [], ◌∷◌, map, refl, ap, sym, ◌∙◌, arith, true≢false}
 use Rattle.std.specs.Prelude.{None, Some}
 use Rattle.std.specs.List.{list_any, list_all}
 use Rattle.prog_data.specs.declared.grammars.Rule.{Rule}
 use Rattle.prog_data.specs.Values.{TypeValue}
 use Rattle.name_order.specs.Relations.{names_from, Order}
-use Rattle.type_domain.specs.Values.{term_name, has_name, is_set, where_fits, join, of_name, join_all, meet_where, meet_parts}
+use Rattle.type_domain.specs.Values.{term_name, has_name, is_set, where_fits, join, of_name, join_all}
+use Rattle.type_domain.specs.Meeting.{united_where, said_parts}
 use Rattle.name_order.specs.Held.{SameLeaves}
 use Rattle.type_domain.proofs.Lists.{same_all}
 use Rattle.type_domain.proofs.NameLoops.{names_left, names_turn, names_end}
@@ -43,14 +44,14 @@ module _ (f : Rule → TypeValue) where
       ∙ ap (λ q. where_fits (list_any (λ r. is_set (f r)) ys) (Some q)) (λ i m. same_all xs ys same (has_if_set m) i) ∙ sym (joined ys)
 
 module _ (o : Order) (p : ℕ → Bool) (says : ℕ → TypeValue) where
-  pub parts_init : (value : TypeValue) (first size : ℕ) → first ≡ size → value ≡ of_name o term_name → (first ≤ size) × (value ≡ meet_parts o p says (names_left first size))
-  parts_init value first size e is = (omega (arith, e), is ∙ sym (ap (meet_parts o p says) (names_end first size (omega (arith, e)))))
+  pub parts_init : (value : TypeValue) (first size : ℕ) → first ≡ size → value ≡ of_name o term_name → (first ≤ size) × (value ≡ said_parts o p says (names_left first size))
+  parts_init value first size e is = (omega (arith, e), is ∙ sym (ap (said_parts o p says) (names_end first size (omega (arith, e)))))
 
-  pub parts_turn : (old new : TypeValue) (left size : ℕ) → 0 < left → (left ≤ size) × (old ≡ meet_parts o p says (names_left left size)) → new ≡ meet_where o (p (left - 1)) (says (left - 1)) old → (left - 1 ≤ size) × (new ≡ meet_parts o p says (names_left (left - 1) size))
+  pub parts_turn : (old new : TypeValue) (left size : ℕ) → 0 < left → (left ≤ size) × (old ≡ said_parts o p says (names_left left size)) → new ≡ united_where (p (left - 1)) (says (left - 1)) old → (left - 1 ≤ size) × (new ≡ said_parts o p says (names_left (left - 1) size))
   parts_turn old new left size lt had is =
       let le = had.0 in
       let e : left - 1 + 1 ≡ left = omega (arith, lt) in
-      (omega (arith, le), is ∙ ap (meet_where o (p (left - 1)) (says (left - 1))) (had.1 ∙ sym (ap (λ k. meet_parts o p says (names_left k size)) e)) ∙ sym (ap (meet_parts o p says) (names_turn (left - 1) size (omega (arith, lt, le)))))
+      (omega (arith, le), is ∙ ap (united_where (p (left - 1)) (says (left - 1))) (had.1 ∙ sym (ap (λ k. said_parts o p says (names_left k size)) e)) ∙ sym (ap (said_parts o p says) (names_turn (left - 1) size (omega (arith, lt, le)))))
 
-  pub parts_end : (value : TypeValue) (left size : ℕ) → left ≡ 0 → value ≡ meet_parts o p says (names_left left size) → value ≡ meet_parts o p says (names_from 0 size)
-  parts_end value left size e is = let whole : size - 0 ≡ size = omega arith in is ∙ ap (λ k. meet_parts o p says (names_left k size)) e ∙ ap (λ k. meet_parts o p says (names_from 0 k)) whole
+  pub parts_end : (value : TypeValue) (left size : ℕ) → left ≡ 0 → value ≡ said_parts o p says (names_left left size) → value ≡ said_parts o p says (names_from 0 size)
+  parts_end value left size e is = let whole : size - 0 ≡ size = omega arith in is ∙ ap (λ k. said_parts o p says (names_left k size)) e ∙ ap (λ k. said_parts o p says (names_from 0 k)) whole

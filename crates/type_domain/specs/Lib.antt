@@ -1,4 +1,5 @@
 pub mod Values
 pub mod Wanted
+pub mod Meeting
 pub mod Relied
 pub mod Laws

@@ -1,5 +1,5 @@
 // Sets of names as bits: the name n is in a set where bit n % 64 of word n / 64 is 1.
-ghost use Rattle.std.specs.Prelude.{◌≡◌, ◌<◌, ◌↔◌, ◌==◌, ◌&&◌, ◌||◌, ℕ, Bool, true, IsTrue};
+ghost use Rattle.std.specs.Prelude.{◌≡◌, ◌<◌, ◌↔◌, ◌&&◌, ◌||◌, ℕ, true, false, IsTrue};
 ghost use Rattle.prog_data.specs.Values.{bit_at};
 
 /// Whether a name is in a set.
@@ -8,14 +8,6 @@ pub(crate) fn has(words: &[u64; 8], name: u64) -> bool
     ensures { result ≡ bit_at words.now name }
 {
     (words[(name / 64) as usize] >> (name % 64)) & 1 == 1
-}
-
-/// Puts a name into a set.
-pub(crate) fn put(words: &mut [u64; 8], name: u64)
-    requires { name < 512 }
-    ensures { bit_at words.new ≡ (λ n. bit_at words.old n || n == name) }
-{
-    words[(name / 64) as usize] |= 1 << (name % 64);
 }
 
 /// The names that are in both sets.
@@ -57,6 +49,18 @@ pub(crate) fn holds_all(a: &[u64; 8], b: &[u64; 8]) -> bool
     for index in 0..8 {
         let wanted = b[index];
         if a[index] & wanted != wanted {
+            return false;
+        }
+    }
+    true
+}
+
+/// Whether no name is in both sets.
+pub(crate) fn are_disjoint(a: &[u64; 8], b: &[u64; 8]) -> bool
+    ensures { IsTrue result ↔ ((n : ℕ) → bit_at b.now n ≡ true → bit_at a.now n ≡ false) }
+{
+    for index in 0..8 {
+        if a[index] & b[index] != 0 {
             return false;
         }
     }

@@ -4,13 +4,14 @@ ghost use Rattle.std.specs.List.{list_all, AllByRecursion};
 ghost use Rattle.prog_data.specs.GrammarRange.{is_rule_of};
 ghost use Rattle.prog_data.specs.Values.{bit_at, seen};
 ghost use Rattle.name_order.specs.Relations.{order};
-ghost use Rattle.type_domain.specs.Values.{IsValue, names_of, is_set, build, leaf_part, join_all, name_part, meet_where, meet_parts, project};
+ghost use Rattle.type_domain.specs.Values.{IsValue, names_of, is_set, build, leaf_part, join_all, name_part, meet_parts, project};
+ghost use Rattle.type_domain.specs.Meeting.{united_where, said_parts};
 
 use crate::bits::has;
-use crate::laws::given_law;
+use crate::laws::{given_law, relied_law};
 use crate::leaves::{Wanted, names_with};
 use crate::lookups::leaves;
-use crate::values::{join, meet, of_name};
+use crate::values::{fitting, join, of_name, united};
 use name_order::Relations;
 use prog_data::{Basic, GND_TYPE, Grammar, Rule, TERM_TYPE, Value};
 
@@ -99,18 +100,34 @@ fn name_part(rel: &Relations, says: u64, place: Place) -> Value
     joined_parts(rel, leaves(rel, says), place)
 }
 
-// A value met with what a name says of a part, where the name is in the set.
-fn met_part(rel: &Relations, words: &[u64; 8], says: u64, place: Place, met: &Value) -> Value
+// A value united with what a name says of a part, where the name is in the set.
+fn united_part(rel: &Relations, words: &[u64; 8], says: u64, place: Place, said: &Value) -> Value
     requires name { says < length rel.now.rules }
     requires part { place.part < place.arity }
-    ensures { seen result ≡ meet_where (order rel.now) (bit_at words.now says) (name_part (order rel.now) place.name place.arity place.part says) (seen met.now) }
+    ensures { seen result ≡ united_where (bit_at words.now says) (name_part (order rel.now) place.name place.arity place.part says) (seen said.now) }
 {
     rel.range();
     if has(words, says) {
-        meet(rel, &name_part(rel, says, place), met)
+        united(&name_part(rel, says, place), said)
     } else {
-        *met
+        *said
     }
+}
+
+// What the names of a set say of a part of a compound, united.
+fn said_parts(rel: &Relations, words: &[u64; 8], place: Place, size: u64) -> Value
+    requires size { size ≡ length rel.now.rules }
+    requires part { place.part < place.arity }
+    ensures { seen result ≡ said_parts (order rel.now) (bit_at words.now) (name_part (order rel.now) place.name place.arity place.part) (names_of (order rel.now)) }
+{
+    rel.range();
+    let mut said = of_name(rel, TERM_TYPE);
+    let mut left = size;
+    while left > 0 {
+        left -= 1;
+        said = united_part(rel, words, left, place, &said);
+    }
+    said
 }
 
 // What the names of a set say of a part of a compound, met.
@@ -120,13 +137,8 @@ fn met_parts(rel: &Relations, words: &[u64; 8], place: Place, size: u64) -> Valu
     ensures { seen result ≡ meet_parts (order rel.now) (bit_at words.now) (name_part (order rel.now) place.name place.arity place.part) (names_of (order rel.now)) }
 {
     rel.range();
-    let mut met = of_name(rel, TERM_TYPE);
-    let mut left = size;
-    while left > 0 {
-        left -= 1;
-        met = met_part(rel, words, left, place, &met);
-    }
-    met
+    relied_law(); // for the proof
+    fitting(rel, &said_parts(rel, words, place, size))
 }
 
 /// What is known of a part of the compounds of this name and arity in the value; none where the value is none, a name of it

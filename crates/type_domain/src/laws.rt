@@ -11,8 +11,8 @@ use name_order::{
 };
 use prog_data::membership_law;
 
-// What is relied on of names, by the laws of the crates below.
-fn relied_law()
+/// What is relied on of names, by the laws of the crates below.
+pub(crate) fn relied_law()
     ensures { (g : GrammarValue) → IsGrammar g → Relied g }
 {
     membership_law();

@@ -10,8 +10,7 @@ ghost use Rattle.type_domain.specs.Wanted.{has_wanted};
 
 use crate::bits::has;
 use crate::lookups::leaves;
-use crate::sets::put_where;
-use name_order::{Relations, admits_atom, admits_int};
+use name_order::{Relations, admits_atom, admits_int, put_where};
 use prog_data::{Basic, GND_TYPE, Grammar, Rule, Value};
 
 /// What a leaf is asked for: a constant, or the compounds of a name whose parts are in given values.

@@ -9,16 +9,6 @@ ghost use Rattle.type_domain.specs.Values.{is_inhabited};
 use name_order::{Relations, member_law, order_law};
 use prog_data::Rule;
 
-/// Whether the first name is below the second.
-pub(crate) fn is_below(rel: &Relations, first: u64, second: u64) -> bool
-    requires first { first < length rel.now.rules }
-    requires second { second < length rel.now.rules }
-    ensures { result ≡ (order rel.now).below first second }
-{
-    order_law(); // for the proof
-    rel.below(first, second)
-}
-
 /// Whether the names meet.
 pub fn do_meet(rel: &Relations, first: u64, second: u64) -> bool
     requires first { first < length rel.now.rules }

@@ -2,6 +2,7 @@
 ghost use Rattle.std.specs.Prelude.{◌≡◌, ◌<◌, ◌↔◌, length, IsTrue};
 ghost use Rattle.prog_data.specs.Values.{bit_at, seen};
 ghost use Rattle.name_order.specs.Relations.{Order, order};
+ghost use Rattle.type_domain.specs.Meeting.{fitting, united};
 ghost use Rattle.type_domain.specs.Values.{IsValue, Leq, all_fit, unless_apart, join, meet, of_name, of_int, of_atom};
 
 use crate::bits::{holds_all, in_both, in_either};
@@ -74,6 +75,31 @@ fn unless_apart(rel: &Relations, names: [u64; 8]) -> Value
         Value { names: Some(names) }
     } else {
         Value { names: None }
+    }
+}
+
+/// The value, none where a name of it has no member or two do not meet.
+pub(crate) fn fitting(rel: &Relations, value: &Value) -> Value
+    ensures { seen result ≡ fitting (order rel.now) (seen value.now) }
+{
+    match &value.names {
+        None => Value { names: None },
+        Some(names) => unless_apart(rel, *names),
+    }
+}
+
+/// The names that are in one of the values, none where one value is.
+pub(crate) fn united(a: &Value, b: &Value) -> Value
+    ensures { seen result ≡ united (seen a.now) (seen b.now) }
+{
+    match &a.names {
+        None => Value { names: None },
+        Some(left) => match &b.names {
+            None => Value { names: None },
+            Some(right) => Value {
+                names: Some(in_either(left, right)),
+            },
+        },
     }
 }
 

@@ -39,5 +39,5 @@ returns-in_ok-looked-in-None c =
     let e = c.args.engine.now in
     let what = tests_by e.program.now c.args.reading in
     called c.args.reading c.args.bound e c.args.pred c.args.args c.args.height c.args.place c.args.rest (c.moves_law.ensures what e.program.now c.args.bound) (c.calls_law.ensures what e.program.now c.args.bound e.calls (size_of e.heap.changes) (choices_at e))
-    c.args.told.now.items c.test_call.new.told.items c.requires.none (omega (arith, c.if-engine-bound.false)) c.in_ok-tested.tested c.in_ok-tested.ensures c.make_call.new.engine c.in_ok-looked-in-None.looked _ c.in-None.is c.in_ok-looked-in-None.ensures
-    (omega (arith, c.saturating_add.ensures)) c.leaner_states_law.ensures c.requires.whole
+    c.args.told.now.items c.test_call.new.told.items c.requires.none (omega (arith, c.if-engine-bound.false)) c.in_ok-tested.tested c.in_ok-tested.ensures c.requires.whole c.leaner_states_law.ensures c.left_out_law.ensures
+    c.make_call.new.engine c.in_ok-looked-in-None.looked _ c.in-None.is c.in_ok-looked-in-None.ensures (omega (arith, c.saturating_add.ensures)) (c.chosen_law.ensures what e.program.now c.args.bound c.requires.whole.kept.in_range)

@@ -16,8 +16,8 @@ returns-in-Retries-clause-shortened c =
     let next = c.in-Retries.next in
     let end = c.in-Retries.end in
     let from : c.max.result ≡ max next (end - c.args.left) = omega arith in
-    λ notes. ap (λ xs. Retries xs (as_pending notes c.in-Retries.call)) (clauses_short next end c.args.left c.max.result from)
-    ∙ sym (ap (λ a. shortened c.args.left (as_alternative notes a)) c.in-Retries.is)
+    λ index notes. ap (λ xs. Retries xs (as_pending notes c.in-Retries.call)) (clauses_short index c.in-Retries.call.exit.pred c.in-Retries.key next end c.args.left c.max.result from)
+    ∙ sym (ap (λ a. shortened c.args.left (as_alternative index notes a)) c.in-Retries.is)
 
 pub returns-in-Retries-clause-may : goal.returns-in-Retries-clause-may
 returns-in-Retries-clause-may c =
@@ -25,7 +25,7 @@ returns-in-Retries-clause-may c =
     let end = c.in-Retries.end in
     let call = c.in-Retries.call in
     let from : c.max.result ≡ max next (end - c.args.left) = omega arith in
-    λ program some. subst (λ a. MayBecome program a (alternative.Retries c.max.result end call)) (sym c.in-Retries.is) (may_shorten program next end c.args.left c.max.result call from some)
+    λ program some. subst (λ a. MayBecome program a (alternative.Retries c.in-Retries.key c.max.result end call)) (sym c.in-Retries.is) (may_shorten program c.in-Retries.key next end c.args.left c.max.result call from some)
 
 pub returns-in-Marks-clause-may : goal.returns-in-Marks-clause-may
 returns-in-Marks-clause-may c =

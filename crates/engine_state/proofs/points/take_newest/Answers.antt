@@ -27,8 +27,8 @@ returns-then-saturating_sub-le1-clause-taken c =
     let at_end : IsNewest items c.in-Some.point = subst (λ ps. IsNewest ps c.in-Some.point) c.as_slice.ensures.value c.in-Some.ensures in
     let few : c.in-Retries.end - c.in-Retries.next ≤ 1 = omega (arith, c.if-saturating_sub-le1.true, c.saturating_sub.ensures) in
     let size : vec_len c.args.points.now - 1 ≡ length items - 1 = omega (arith, c.args.points.now.ok.0) in
-    λ notes. whole notes items c.pop-then-saturating_sub-le1.new.self.items c.in-Some.point at_end (c.pop-then-saturating_sub-le1.ensures.rest ∙ ap (λ n. take n items) size)
-    (width_short notes c.in-Retries.next c.in-Retries.end c.in-Retries.call c.in-Some.point.alternative c.in-Retries.is few)
+    λ index notes. whole index notes items c.pop-then-saturating_sub-le1.new.self.items c.in-Some.point at_end (c.pop-then-saturating_sub-le1.ensures.rest ∙ ap (λ n. take n items) size)
+    (width_short index notes c.in-Retries.key c.in-Retries.next c.in-Retries.end c.in-Retries.call c.in-Some.point.alternative c.in-Retries.is few)
 
 pub returns-then-saturating_sub-le1-clause-back : goal.returns-then-saturating_sub-le1-clause-back
 returns-then-saturating_sub-le1-clause-back c =
@@ -43,9 +43,9 @@ returns-else-saturating_sub-le1-clause-taken c =
     let items = c.args.points.now.items in
     let at_end : IsNewest items c.in-Some.point = subst (λ ps. IsNewest ps c.in-Some.point) c.as_slice.ensures.value c.in-Some.ensures in
     let more : 1 < c.in-Retries.end - c.in-Retries.next = omega (arith, c.if-saturating_sub-le1.false, c.saturating_sub.ensures) in
-    λ notes.
-    let size : (c.len-last.result - 1) + 1 ≡ length items = omega (arith, size_is notes items c.in-Some.point at_end, c.len-last.ensures, c.args.points.now.ok.0) in
-    clause notes items _ c.in-Some.point at_end c.in-Retries.next c.in-Retries.end c.in-Retries.call c.in-Retries.is c.with.result c.with-in-Retries.result (c.len-last.result - 1) size refl c.with.ensures c.with-in-Retries.ensures more
+    λ index notes.
+    let size : (c.len-last.result - 1) + 1 ≡ length items = omega (arith, size_is items c.in-Some.point at_end, c.len-last.ensures, c.args.points.now.ok.0) in
+    clause index notes items _ c.in-Some.point at_end c.in-Retries.key c.in-Retries.next c.in-Retries.end c.in-Retries.call c.in-Retries.is c.with.result c.with-in-Retries.result (c.len-last.result - 1) size refl c.with.ensures c.with-in-Retries.ensures more
 
 pub returns-else-saturating_sub-le1-clause-back : goal.returns-else-saturating_sub-le1-clause-back
 returns-else-saturating_sub-le1-clause-back c =
@@ -53,5 +53,5 @@ returns-else-saturating_sub-le1-clause-back c =
     let at_end : IsNewest items c.in-Some.point = subst (λ ps. IsNewest ps c.in-Some.point) c.as_slice.ensures.value c.in-Some.ensures in
     let more : 1 < c.in-Retries.end - c.in-Retries.next = omega (arith, c.if-saturating_sub-le1.false, c.saturating_sub.ensures) in
     λ program query changes notes links are.
-    let size : (c.len-last.result - 1) + 1 ≡ length items = omega (arith, size_is notes items c.in-Some.point at_end, c.len-last.ensures, c.args.points.now.ok.0) in
-    clause_back program query changes notes links items _ c.in-Some.point at_end c.in-Retries.next c.in-Retries.end c.in-Retries.call c.in-Retries.is c.with.result c.with-in-Retries.result (c.len-last.result - 1) size refl c.with.ensures c.with-in-Retries.ensures more are
+    let size : (c.len-last.result - 1) + 1 ≡ length items = omega (arith, size_is items c.in-Some.point at_end, c.len-last.ensures, c.args.points.now.ok.0) in
+    clause_back program query changes notes links items _ c.in-Some.point at_end c.in-Retries.key c.in-Retries.next c.in-Retries.end c.in-Retries.call c.in-Retries.is c.with.result c.with-in-Retries.result (c.len-last.result - 1) size refl c.with.ensures c.with-in-Retries.ensures more are

@@ -1,15 +1,14 @@
-use Rattle.std.proofs.Common.{length, arith}
-use Rattle.prog_data.specs.Values.{bit_at, seen}
+use Rattle.std.proofs.Common.{ap, sym, ◌∙◌}
+use Rattle.prog_data.specs.Values.{bit_at}
 use Rattle.name_order.specs.Relations.{order}
-use Rattle.type_domain.specs.Values.{name_part}
-use Rattle.type_domain.proofs.Parts.{parts_init, parts_turn, parts_end}
+use Rattle.type_domain.specs.Values.{name_part, names_of}
+use Rattle.type_domain.specs.Meeting.{fitting}
+use Rattle.type_domain.proofs.InLaws.{top_fits}
+use Rattle.type_domain.proofs.Meeting.{met_once}
 use Rattle.type_domain.proofs.compounds.met_parts.Goals as goal
 
-pub loop-left-init : goal.loop-left-init
-loop-left-init c = parts_init (order c.args.rel.now) (bit_at c.args.words.now) (name_part (order c.args.rel.now) c.args.place.name c.args.place.arity c.args.place.part) (seen c.of_name-met.result) c.args.size (length c.args.rel.now.rules) c.requires.size c.of_name-met.ensures.value
-
-pub loop-left-preserved : goal.loop-left-preserved
-loop-left-preserved c = parts_turn (order c.args.rel.now) (bit_at c.args.words.now) (name_part (order c.args.rel.now) c.args.place.name c.args.place.arity c.args.place.part) (seen c.loop-left.met) (seen c.met_part-met.result) c.loop-left.left (length c.args.rel.now.rules) c.loop-left-test.true c.loop-left.invariant c.met_part-met.ensures
-
 pub returns : goal.returns
-returns c = parts_end (order c.args.rel.now) (bit_at c.args.words.now) (name_part (order c.args.rel.now) c.args.place.name c.args.place.arity c.args.place.part) (seen c.loop-left.met) c.loop-left.left (length c.args.rel.now.rules) (omega (arith, c.loop-left-test.false)) c.loop-left.invariant.1
+returns c =
+    c.fitting.ensures ∙ ap (fitting (order c.args.rel.now)) c.said_parts.ensures
+    ∙ sym (met_once (order c.args.rel.now) (bit_at c.args.words.now) (name_part (order c.args.rel.now) c.args.place.name c.args.place.arity c.args.place.part)
+    (top_fits c.args.rel.now (c.relied_law.ensures c.args.rel.now c.range.ensures)) (names_of (order c.args.rel.now)))

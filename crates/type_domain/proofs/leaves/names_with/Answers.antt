@@ -3,7 +3,7 @@ use Rattle.std.specs.List.{list_any}
 use Rattle.prog_data.specs.Values.{seen}
 use Rattle.name_order.specs.Relations.{order}
 use Rattle.type_domain.specs.Wanted.{has_wanted}
-use Rattle.type_domain.proofs.NameLoops.{gathered_none, gathered_more, gathered_all}
+use Rattle.name_order.proofs.Gathering.{gathered_none, gathered_more, gathered_all}
 use Rattle.type_domain.proofs.LeafLists.{leaf_named}
 use Rattle.type_domain.proofs.leaves.names_with.Goals as goal
 

@@ -3,7 +3,7 @@ use Rattle.std.specs.List.{list_any}
 use Rattle.prog_data.specs.Values.{seen}
 use Rattle.name_order.specs.Relations.{order}
 use Rattle.type_domain.specs.Wanted.{has_wanted}
-use Rattle.type_domain.proofs.NameLoops.{Gathered}
+use Rattle.name_order.proofs.Gathering.{Gathered}
 use Rattle.type_domain.proofs.leaves.names_with.Given as goal
 
 abbrev pub invariant-loop-name : goal.invariant-loop-name

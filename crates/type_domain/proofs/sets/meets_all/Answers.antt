@@ -1,11 +1,10 @@
-use Rattle.std.proofs.Common.{◌||◌, not, length, sym, ◌∙◌, arith}
+use Rattle.std.specs.Cmp.{both_ways}
 use Rattle.prog_data.specs.Values.{bit_at}
-use Rattle.name_order.specs.Relations.{order}
-use Rattle.type_domain.proofs.NameLoops.{all_turn, all_stop}
+use Rattle.type_domain.proofs.RowLaws.{all_met, none_apart}
 use Rattle.type_domain.proofs.sets.meets_all.Goals as goal
 
-pub returns-then-not-meets_in : goal.returns-then-not-meets_in
-returns-then-not-meets_in c = all_stop (λ m. not (bit_at c.args.names.now m) || (order c.args.rel.now).meets c.args.name m) c.loop-other.other (length c.args.rel.now.rules) _ (omega arith) (sym c.meets_in.ensures ∙ c.if-not-meets_in.true) c.loop-other.invariant
-
-pub loop-other-preserved : goal.loop-other-preserved
-loop-other-preserved c = all_turn (λ m. not (bit_at c.args.names.now m) || (order c.args.rel.now).meets c.args.name m) c.loop-other.other (length c.args.rel.now.rules) _ (omega arith) (sym c.meets_in.ensures ∙ c.if-not-meets_in.false) c.loop-other.invariant
+pub returns : goal.returns
+returns c =
+    let met = all_met c.args.rel.now (c.order_law.ensures c.args.rel.now) (c.meets_law.ensures c.args.rel.now) c.args.name c.requires (bit_at c.args.names.now) (bit_at c.apart.result) c.apart.ensures in
+    let apart = none_apart c.args.rel.now (c.order_law.ensures c.args.rel.now) (c.meets_law.ensures c.args.rel.now) c.args.name c.requires (bit_at c.args.names.now) (bit_at c.apart.result) c.apart.ensures in
+    both_ways _ _ (λ e. met (c.are_disjoint.ensures.0 e)) (λ e. c.are_disjoint.ensures.1 (apart e))

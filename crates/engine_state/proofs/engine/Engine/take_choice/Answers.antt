@@ -10,10 +10,10 @@ undo_to-requires c =
     (c.in-Some.ensures.back e.program.now e.query e.heap.changes e.notes.items e.links.items c.requires.moments).before.trail
 
 pub returns-in-None-clause-taken : goal.returns-in-None-clause-taken
-returns-in-None-clause-taken c = let e = c.args.self.now in ap (choices_of e.heap.changes (as_links e.notes.items e.links.items) e.query) (c.in-None.ensures.taken e.notes.items)
+returns-in-None-clause-taken c = let e = c.args.self.now in ap (choices_of e.heap.changes (as_links e.notes.items e.links.items) e.query) (c.in-None.ensures.taken e.index e.notes.items)
 
 pub returns-in-Some-clause-taken : goal.returns-in-Some-clause-taken
 returns-in-Some-clause-taken c =
     let e = c.args.self.now in
-    has_taken e c.requires c.in-Some.point c.undo_to.new.self c.truncate.new.self c.truncate-in-Some.new.self c.take_newest.new.points (c.in-Some.ensures.taken e.notes.items)
+    has_taken e c.requires c.in-Some.point c.undo_to.new.self c.truncate.new.self c.truncate-in-Some.new.self c.take_newest.new.points (c.in-Some.ensures.taken e.index e.notes.items)
     (c.in-Some.ensures.back e.program.now e.query e.heap.changes e.notes.items e.links.items c.requires.moments) (ap (λ h. h.changes) c.undo_to.ensures) c.truncate.ensures.items c.truncate-in-Some.ensures.items

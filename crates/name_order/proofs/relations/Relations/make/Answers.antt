@@ -18,10 +18,11 @@ invariant_of-result c =
     let is_all : c.in_ok-all.all ≡ all_leaves_led c.args.grammar.now.rules (has c.in_ok-leads.leads) = c.in_ok-all.ensures ∙ ap (λ lists. all_leaves_led lists (has c.in_ok-leads.leads)) c.as_slice-rules.ensures in
     let is_leaves : c.in_ok-leaves.leaves ≡ map (kept_leaves (has c.in_ok-members.members)) (all_leaves_led c.args.grammar.now.rules (has c.in_ok-leads.leads)) =
     c.in_ok-leaves.ensures ∙ ap (map (kept_leaves (has c.in_ok-members.members))) (c.as_slice-2.ensures ∙ is_all) in
-    subst (λ grammar. TablesHold grammar c.in_ok-leaves.leaves c.in_ok-members.members c.in_ok-outside.outside c.in_ok-meeting.meeting) (sym c.in_ok-grammar.ensures)
-    (subst (λ leaves. TablesHold c.args.grammar.now leaves c.in_ok-members.members c.in_ok-outside.outside c.in_ok-meeting.meeting) (sym is_leaves)
+    subst (λ grammar. TablesHold grammar c.in_ok-leaves.leaves c.in_ok-members.members c.in_ok-outside.outside c.in_ok-meeting.meeting c.in_ok-above.above c.in_ok-apart.apart) (sym c.in_ok-grammar.ensures)
+    (subst (λ leaves. TablesHold c.args.grammar.now leaves c.in_ok-members.members c.in_ok-outside.outside c.in_ok-meeting.meeting c.in_ok-above.above c.in_ok-apart.apart) (sym is_leaves)
     (holds g c.requires leads members c.in_ok-outside.outside c.in_ok-meeting.meeting
     (subst (λ lists. IsLeast (marking Leads lists) (length lists) c.in_ok-leads.leads) c.as_slice-rules.ensures c.in_ok-leads.ensures)
     (subst (λ lists. IsLeast (marking Members lists) (length lists) c.in_ok-members.members) (c.as_slice.ensures ∙ is_all) c.in_ok-members.ensures)
     (subst (λ lists. IsLeast (marking Outside lists) (length lists) c.in_ok-outside.outside) (c.as_slice-3.ensures ∙ is_leaves) c.in_ok-outside.ensures)
-    (subst (λ lists. IsLeast (marking Meets lists) (length lists) c.in_ok-meeting.meeting) (c.as_slice-4.ensures ∙ is_leaves) c.in_ok-meeting.ensures)))
+    (subst (λ lists. IsLeast (marking Meets lists) (length lists) c.in_ok-meeting.meeting) (c.as_slice-4.ensures ∙ is_leaves) c.in_ok-meeting.ensures)
+    c.in_ok-above.above c.in_ok-apart.apart c.in_ok-above.ensures c.in_ok-apart.ensures))
