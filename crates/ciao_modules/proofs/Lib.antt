@@ -13,3 +13,4 @@ mod OneOutcome
 mod SomeOutcome
 mod RefusalNames
 mod OperatorLaws
+mod LoadRanges

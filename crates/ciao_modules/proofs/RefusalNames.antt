@@ -43,7 +43,7 @@ use Rattle.ciao_modules.specs.declared.reading.FileOutcome.TheVariants as read
 -- names
 
 -- a text is among the names that it is added to
-placed_text : (text : Word) (names : List Word) → place_of text names < length (with_text names text)
+pub placed_text : (text : Word) (names : List Word) → place_of text names < length (with_text names text)
 placed_text text names = by (list_any (bytes_eq text) names) refl
   where
     by : (b : Bool) → list_any (bytes_eq text) names ≡ b → place_of text names < length (if b then names else names ++ text ∷ [])
@@ -53,7 +53,7 @@ placed_text text names = by (list_any (bytes_eq text) names) refl
         at_most : place_of text names ≤ length names
         at_most = prefix_len-le-length _ names
 
-longer : (text : Word) (names : List Word) → length names ≤ length (with_text names text)
+pub longer : (text : Word) (names : List Word) → length names ≤ length (with_text names text)
 longer text names = by (list_any (bytes_eq text) names)
   where
     by : (b : Bool) → length names ≤ length (if b then names else names ++ text ∷ [])

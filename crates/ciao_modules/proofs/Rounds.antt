@@ -57,7 +57,7 @@ import_wider n m u w le more i r = record {
 sentence_wider : RangesStay → (n m : ℕ) → n ≤ m → (s : Sentence) → IsSentenceInRange n s → IsSentenceInRange m s
 sentence_wider stay n m le s r = stay.widened n m s.vars s.vars s.term le (omega arith) r
 
-unit_wider : RangesStay → (n m u w : ℕ) → n ≤ m → u ≤ w → (x : Unit) → IsUnitInRange n u x → IsUnitInRange m w x
+pub unit_wider : RangesStay → (n m u w : ℕ) → n ≤ m → u ≤ w → (x : Unit) → IsUnitInRange n u x → IsUnitInRange m w x
 unit_wider stay n m u w le more x r = record {
   file = omega (arith, le, r.file);
   name = omega (arith, le, r.name);
@@ -66,14 +66,14 @@ unit_wider stay n m u w le more x r = record {
   imports = all_weaker (IsImportInRange n u) (IsImportInRange m w) x.imports (import_wider n m u w le more) r.imports;
 }
 
-module_wider : (n m : ℕ) → n ≤ m → (used : Module) → IsModuleInRange n used → IsModuleInRange m used
+pub module_wider : (n m : ℕ) → n ≤ m → (used : Module) → IsModuleInRange n used → IsModuleInRange m used
 module_wider n m le (module_of.File name) w = omega (arith, le, w)
 module_wider n m le (module_of.Library library) w = tt
 
 member_wider : (n m : ℕ) → n ≤ m → (x : Member) → IsMemberInRange n x → IsMemberInRange m x
 member_wider n m le x r = record { used = module_wider n m le x.used r.used; place = omega (arith, le, r.place) }
 
-queue_wider : (n m : ℕ) → n ≤ m → (queue : List Member) → IsQueue n queue → IsQueue m queue
+pub queue_wider : (n m : ℕ) → n ≤ m → (queue : List Member) → IsQueue n queue → IsQueue m queue
 queue_wider n m le queue q = record { members = all_weaker (IsMemberInRange n) (IsMemberInRange m) queue (member_wider n m le) q.members; distinct = q.distinct }
 
 -- reads

@@ -1,13 +1,15 @@
 -- What is claimed of loads: for given files, names and a main file there is one outcome.
 -- The headline does not rest on this file.
-use Rattle.std.specs.Prelude.{◌≡◌, List}
+use Rattle.std.specs.Prelude.{◌≡◌, List, length}
 use Rattle.byte_io.specs.Outside.{Held}
 use Rattle.std.specs.List.{AllByRecursion}
-use Rattle.term_core.specs.Names.{name_text}
+use Rattle.term_core.specs.Lists.{IsPrefix}
+use Rattle.term_core.specs.Names.{name_text, fixed_names}
 use Rattle.term_core.specs.Standard.{IsMade}
 use Rattle.prog_data.specs.declared.refusals.Refusal.{Refusal}
 use Rattle.ciao_modules.specs.FileNames.{Word}
 use Rattle.ciao_modules.specs.Loaded.{Loaded, LoadRefused}
+use Rattle.ciao_modules.specs.UnitRanges.{AreUnitsInRange}
 use Rattle.ciao_modules.specs.declared.units.Unit.{Unit}
 
 -- the units are the same, and the names at last
@@ -30,6 +32,10 @@ OneRefusalName = (held : Held) (main : Word) (before after later : List Word) (r
 -- the operators of each unit are a table that changes of the standard one can make
 abbrev pub OperatorsAreMade : Type 0
 OperatorsAreMade = (held : Held) (main : Word) (before after : List Word) (units : List Unit) → Loaded held main before after units → AllByRecursion (λ u. IsMade u.ops) units
+
+-- the names at first begin those at last, and the units are in range of these, where the first are those of the language and more
+abbrev pub LoadedInRange : Type 0
+LoadedInRange = (held : Held) (main : Word) (before after : List Word) (units : List Unit) → IsPrefix fixed_names before → Loaded held main before after units → IsPrefix before after × AreUnitsInRange (length after) units
 
 -- there are units or a first refusal: it is not so that there is neither
 abbrev pub SomeLoad : Type 0

@@ -1,8 +1,9 @@
 // The laws of loads.
-ghost use Rattle.ciao_modules.specs.LoadLaws.{OneLoad, NoLoadRefused, OneLoadRefusal, OneRefusalName, OperatorsAreMade, SomeLoad};
+ghost use Rattle.ciao_modules.specs.LoadLaws.{OneLoad, NoLoadRefused, OneLoadRefusal, OneRefusalName, OperatorsAreMade, LoadedInRange, SomeLoad};
 
-use ciao_reader::{every_text_law, one_outcome_law};
+use ciao_reader::{every_text_law, in_range_law, one_outcome_law};
 use ciao_tokens::named_tokens_law;
+use term_core::ranges_law;
 
 /// For given files a main file has one list of units or one first refusal, and not both.
 pub fn one_load_law()
@@ -25,6 +26,15 @@ pub fn refusal_name_law()
 pub fn unit_operators_law()
     ensures { OperatorsAreMade }
 {}
+
+/// The units are in range of the names at last, which begin with those at first.
+pub fn loaded_range_law()
+    ensures { LoadedInRange }
+{
+    named_tokens_law();
+    in_range_law();
+    ranges_law();
+}
 
 /// For given files a main file has units or a first refusal: it is not so that there is neither.
 pub fn some_load_law()

@@ -14,7 +14,9 @@ mod reading;
 mod units;
 
 pub use file_names::base_of;
-pub use laws::{one_load_law, refusal_name_law, some_load_law, unit_operators_law};
+pub use laws::{
+    loaded_range_law, one_load_law, refusal_name_law, some_load_law, unit_operators_law,
+};
 pub use libraries::Library;
 pub use loading::load_set;
 pub use units::{Export, Exports, Import, LoadFault, Unit};

@@ -16,6 +16,6 @@ mod preds;
 mod programs;
 mod sentence_faults;
 
-pub use laws::least_fault_law;
+pub use laws::{least_fault_law, linked_range_law};
 pub use linking::link;
 pub use outcomes::LinkFault;
